@@ -1,0 +1,10 @@
+pub mod Network
+pub mod Flow
+pub mod Cut
+pub mod Residual
+pub mod Incidence
+pub mod Labels
+pub mod Search
+pub mod Reach
+pub mod Maximum
+pub mod Laws

@@ -1,0 +1,12 @@
+use Rattle.std.proofs.Common.{arith}
+use Rattle.std.proofs.lemmas.Nat.Gcd.{IsGcd-from_mod, IsGcd-from_zero}
+use Rattle.ofit_num.proofs.divisor.divisor_of.Goals as goal
+
+pub loop-right-preserved : goal.loop-right-preserved
+loop-right-preserved c = record {
+  same = λ g h. c.loop-right.invariant.same g (IsGcd-from_mod _ _ g h);
+  some = omega arith;
+}
+
+pub returns-clause-divisor : goal.returns-clause-divisor
+returns-clause-divisor c = c.loop-right.invariant.same _ (IsGcd-from_zero _ _ (omega arith))

@@ -1,0 +1,35 @@
+-- A problem of isotonic regression: groups at places, their rows, the order between them, and bounds.
+use Rattle.std.specs.Prelude.{ℕ, List, [], length, slice_get, unwrap_or, Option, None, ℤ, ◌≡◌, ◌<◌, All, AllPairs}
+use Rattle.ofit_num.specs.declared.row.Row.{Row}
+
+-- the least and the greatest value that a group may have, each where there is one
+pub record Bounds : Type 0 where
+  pub lo : Option ℤ
+  pub hi : Option ℤ
+
+-- groups with their rows, the pairs of places (low, high) in the study's order, which is by the bytes of the names of low, then high, and the bounds of each place
+pub record Problem : Type 0 where
+  pub count : ℕ
+  pub rows : ℕ → List Row
+  pub pairs : List (ℕ × ℕ)
+  pub bounds : ℕ → Bounds
+
+-- the problem of a list of each group's rows, with pairs of its places and each place's bounds
+abbrev pub problem_of : List (List Row) → List (ℕ × ℕ) → (ℕ → Bounds) → Problem
+problem_of groups pairs bounds = record {
+  count = length groups;
+  rows = λ g. unwrap_or (slice_get groups g) [];
+  pairs = pairs;
+  bounds = bounds;
+}
+
+abbrev pub no_bounds : ℕ → Bounds
+no_bounds g = record { lo = None; hi = None }
+
+-- no pair stands twice
+abbrev pub HasDistinctPairs : Problem → Type 0
+HasDistinctPairs s = AllPairs (λ e f. e ≡ f → ⊥) s.pairs
+
+-- the order is between places of the problem
+abbrev pub HasPlaces : Problem → Type 0
+HasPlaces s = All (λ e. (e.0 < s.count) × (e.1 < s.count)) s.pairs

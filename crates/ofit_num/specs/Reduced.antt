@@ -1,0 +1,22 @@
+-- Fractions in lowest terms, within the limits of those that are printed.
+use Rattle.std.specs.Prelude.{◌≡◌, ℕ, ◌≤◌, ◌^◌, ℤ, pos, negsuc, ◌*ℤ◌, zero, suc, unsigned_abs}
+use Rattle.ofit_num.specs.Fraction.{Fraction, IsLowest}
+
+-- the numbers that a printed fraction may have
+pub record InLimits (f : Fraction) : Type 0 where
+  pub num : unsigned_abs f.num ≤ 10 ^ 21
+  pub den : f.den ≤ 10 ^ 12
+
+-- f is num/den in lowest terms
+pub record Reduces (num den : ℤ) (f : Fraction) : Type 0 where
+  pub lowest : IsLowest f
+  pub same : f.num *ℤ den ≡ num *ℤ pos f.den
+
+abbrev pub negated : ℕ → ℤ
+negated zero = pos 0
+negated (suc k) = negsuc k
+
+-- the number of size k that has the sign of the first
+abbrev pub signed_as : ℤ → ℕ → ℤ
+signed_as (pos n) k = pos k
+signed_as (negsuc n) k = negated k

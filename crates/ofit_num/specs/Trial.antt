@@ -1,0 +1,33 @@
+-- A value for each place, over one denominator, so that vectors of fractions are compared in whole numbers.
+use Rattle.std.specs.Prelude.{◌≡◌, ℕ, zero, suc, ◌*◌, ◌<◌, List, [], ◌∷◌, ℤ, pos, ◌*ℤ◌, slice_get, Some}
+use Rattle.ofit_num.specs.Fraction.{Fraction}
+
+-- the vector of value g / scale; places from the count of groups on don't matter, and the scale is at least 1 wherever Obeys or Represents holds
+pub record Trial : Type 0 where
+  pub value : ℕ → ℤ
+  pub scale : ℕ
+
+-- the product of the denominators
+abbrev pub scale_of : List Fraction → ℕ
+scale_of [] = 1
+scale_of (f ∷ fs) = f.den * scale_of fs
+
+-- the numerator at a place times the denominators of all other places
+abbrev pub value_of : List Fraction → ℕ → ℤ
+value_of [] g = pos 0
+value_of (f ∷ fs) zero = f.num *ℤ pos (scale_of fs)
+value_of (f ∷ fs) (suc g) = value_of fs g *ℤ pos f.den
+
+-- the trial of a list of fractions
+abbrev pub trial_of : List Fraction → Trial
+trial_of fs = record { value = value_of fs; scale = scale_of fs }
+
+-- the trial has each fraction of the list at its place
+pub record Represents (fs : List Fraction) (t : Trial) : Type 0 where
+  pub scale : 0 < t.scale
+  pub dens : (g : ℕ) (f : Fraction) → slice_get fs g ≡ Some f → 0 < f.den
+  pub values : (g : ℕ) (f : Fraction) → slice_get fs g ≡ Some f → t.value g *ℤ pos f.den ≡ f.num *ℤ pos t.scale
+
+-- two trials have equal values at the places below n
+pub record EqualBelow (n : ℕ) (t u : Trial) : Type 0 where
+  pub values : (g : ℕ) → g < n → t.value g *ℤ pos u.scale ≡ u.value g *ℤ pos t.scale

@@ -1,0 +1,23 @@
+//! Exact numbers and observations: fractions in lowest terms, rows, groups, number texts and the
+//! tally of fits. The definitions that every contract of the suite cites stand in `specs/`.
+#![tactic(auto)]
+
+mod divisor;
+mod frac;
+mod groups;
+mod laws;
+mod row;
+mod tally;
+mod text;
+mod whole;
+
+pub use frac::Frac;
+pub use groups::Groups;
+pub use laws::{signed_texts_are_canonical, whole_texts_are_canonical};
+pub use row::Row;
+pub use tally::Tally;
+pub use text::{append_signed, append_whole};
+pub use whole::{WholeFault, read_signed, read_whole};
+
+#[cfg(test)]
+mod tests;

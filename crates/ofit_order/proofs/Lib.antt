@@ -1,0 +1,15 @@
+pub mod PairOrder
+pub mod Linking
+pub mod Walks
+pub mod Seeing
+pub mod Counting
+pub mod Parting
+pub mod Increasing
+pub mod Uniqueness
+pub mod DoubleCounting
+pub mod Forming
+pub mod Soundness
+pub mod OneLeft
+pub mod Leading
+pub mod Trees
+pub mod Shaping

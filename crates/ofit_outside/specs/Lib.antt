@@ -1,0 +1,5 @@
+pub mod Faults
+pub mod Folder
+pub mod MemFolder
+pub mod MemSink
+pub mod Sink

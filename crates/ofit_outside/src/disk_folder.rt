@@ -1,0 +1,107 @@
+ghost use Rattle.std.specs.Prelude.{◌≡◌, ◌≤◌, None};
+ghost use Rattle.ofit_outside.specs.Faults.{risen};
+
+use crate::{FetchFault, Folder};
+use std::alloc::Global;
+use std::fs;
+use std::io::{ErrorKind, Read};
+use std::marker::Model;
+use std::rt::Files;
+
+/// The file system, with a name as a path. It tells nothing of what it holds, and contracts see it
+/// as its count of faults.
+#[derive(Drop)]
+pub struct DiskFolder<'a, R> {
+    rt: &'a R,
+    faults: u64,
+}
+
+impl<'a, R> Model for DiskFolder<'a, R> {
+    ghost use Rattle.std.specs.Prelude.{ℕ, ◌^◌, ◌<◌};
+
+    ghost Value = { ℕ };
+
+    ghost view = { λ d. d.faults };
+
+    ghost invariant = { λ d. d.faults < 2 ^ 64 };
+}
+
+impl<'a, R: Files> DiskFolder<'a, R> {
+    pub fn new(rt: &'a R) -> Self
+        ensures { result ≡ 0 }
+    {
+        DiskFolder { rt, faults: 0 }
+    }
+
+    // Counts an error.
+    fn failed(&mut self) -> FetchFault
+        ensures fault { result ≡ FetchFault.Failed }
+        ensures counted { self.new ≡ risen self.old }
+        ensures never_falls { self.old ≤ self.new }
+    {
+        self.faults = self.faults.saturating_add(1);
+        FetchFault::Failed
+    }
+}
+
+impl<R: Files> Folder for DiskFolder<'_, R> {
+    ghost held = { λ _. None };
+
+    ghost faults = { λ count. count };
+
+    /// Any error but that nothing stands under the name is counted, also one that a second try might not meet.
+    fn fetch(&mut self, alloc: Global, name: &str, limit: u64) -> Result<Vec<u8>, FetchFault> {
+        let mut file = match fs::open(self.rt, name) {
+            Ok(file) => file,
+            Err(error) if error.kind() == ErrorKind::NotFound => return Err(FetchFault::Missing),
+            Err(_) => return Err(self.failed()),
+        };
+        let mut bytes = Vec::new(alloc);
+        let mut piece = [0u8; 4096];
+        loop {
+            let Ok(count) = file.read(&mut piece) else {
+                return Err(self.failed());
+            };
+            if count == 0 {
+                return Ok(bytes);
+            }
+            if count as u64 > limit - bytes.len() as u64 {
+                return Err(FetchFault::Long);
+            }
+            bytes.extend_from_slice(&piece[..count])?;
+        }
+    }
+}
+
+#[cfg(test)]
+mod tests {
+    use super::*;
+    use std::test::Fail;
+
+    // Over one piece that is read at once.
+    const LENGTH: usize = 5000;
+
+    #[test]
+    fn fetches_what_was_written(rt: HostRuntime) -> Result<(), Fail> {
+        let alloc = rt.alloc();
+        let name = "ofit_outside_fetched.txt";
+        let text = vec![in alloc; b'x'; LENGTH]?;
+        fs::write(&rt, name, text.as_slice())?;
+
+        let mut disk = DiskFolder::new(&rt);
+        let fetched = disk.fetch(alloc, name, 5000);
+        let longer = disk.fetch(alloc, name, 4999).err();
+        let missing = disk.fetch(alloc, "ofit_outside_missing.txt", 5000).err();
+        assert_eq!(rt; disk.faults, 0);
+        // A folder can be opened and not read.
+        let failed = disk.fetch(alloc, ".", 5000).err();
+        assert_eq!(rt; disk.faults, 1);
+        fs::remove_file(&rt, name)?;
+
+        assert_eq!(rt; fetched.ok().ok_or("fetched")?.as_slice(), text.as_slice());
+        assert_eq!(rt; longer, Some(FetchFault::Long));
+        assert_eq!(rt; missing, Some(FetchFault::Missing));
+        assert_eq!(rt; failed, Some(FetchFault::Failed));
+        Ok(())
+    }
+}

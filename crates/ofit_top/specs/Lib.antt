@@ -1,0 +1,10 @@
+pub mod Field
+pub mod PlainTable
+pub mod Parts
+pub mod Names
+pub mod Table
+pub mod SheetText
+pub mod Flows
+pub mod Runs
+pub mod Answer
+pub mod Run
