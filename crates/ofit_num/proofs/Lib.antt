@@ -1,4 +1,4 @@
-pub mod Lowest
+pub mod LowestTerms
 pub mod RowLists
 pub mod Spelled
 pub mod Gap
@@ -29,3 +29,10 @@ pub mod Strict
 pub mod Blocks
 pub mod Absolute
 pub mod Squared
+pub mod Runs
+pub mod Scaled
+pub mod DecimalTexts
+pub mod Fixed
+pub mod Floor
+pub mod ReadBack
+pub mod Quotients

@@ -17,3 +17,4 @@ pub mod Settled
 pub mod Block
 pub mod Sheet
 pub mod Verdict
+pub mod DecimalText

@@ -2,22 +2,30 @@
 //! tally of fits. The definitions that every contract of the suite cites stand in `specs/`.
 #![tactic(auto)]
 
+mod decimal;
 mod divisor;
 mod frac;
 mod groups;
 mod laws;
 mod row;
 mod tally;
+mod terms;
 mod text;
 mod whole;
 
+pub use decimal::{
+    NumFault, append_decimal, decimal_texts_are_canonical, decimals_are_read_back, read_decimal,
+};
 pub use frac::Frac;
 pub use groups::Groups;
 pub use laws::{signed_texts_are_canonical, whole_texts_are_canonical};
 pub use row::Row;
 pub use tally::Tally;
+pub use terms::lowest;
 pub use text::{append_signed, append_whole};
 pub use whole::{WholeFault, read_signed, read_whole};
 
+#[cfg(test)]
+mod decimal_tests;
 #[cfg(test)]
 mod tests;

@@ -6,3 +6,4 @@ pub mod PlainGroups
 pub mod ValueLines
 pub mod Pieces
 pub mod FourWords
+pub mod HeldTables

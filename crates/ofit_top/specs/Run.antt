@@ -97,3 +97,11 @@ CountsWrite before after Done = after ≡ before
 CountsWrite before after (Refused refusal) = after ≡ before
 CountsWrite before after ReadFault = after ≡ before
 CountsWrite before after Memory = after ≡ before
+
+-- no cause stands in the inputs
+abbrev pub IsNoRefusal : Answer → Type 0
+IsNoRefusal Done = Unit {0}
+IsNoRefusal (Refused refusal) = ⊥
+IsNoRefusal ReadFault = Unit {0}
+IsNoRefusal WriteFault = Unit {0}
+IsNoRefusal Memory = Unit {0}

@@ -9,6 +9,7 @@ mod flows;
 mod groups;
 mod input;
 mod job;
+mod laws;
 mod line;
 mod names;
 mod output;
@@ -19,6 +20,7 @@ mod text;
 mod top;
 
 pub use answer::{Answer, Refusal, Which, status};
+pub use laws::held_tables_are_fitted;
 pub use top::run;
 
 #[cfg(test)]

@@ -1,0 +1,5 @@
+pub mod Factorial
+pub mod Orderings
+pub mod Level
+pub mod LevelText
+pub mod TableWriter

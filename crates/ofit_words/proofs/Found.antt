@@ -1,0 +1,160 @@
+-- what is found of the settings
+use Rattle.std.proofs.Common.{◌≡◌, ℕ, ◌+◌, List, [], ◌∷◌, ◌++◌, length, refl, sym, ap, ◌∙◌, subst, append_assoc, arith}
+use Rattle.std.proofs.lemmas.List.{append-nil}
+use Rattle.std.specs.Prelude.{Bool, true, false, Option, Some, None, is_some, IfOk, Result, Ok, Err, ⊤}
+use Rattle.ofit_words.specs.declared.command.Command.{Command}
+use Rattle.ofit_words.specs.declared.command.Command.TheVariants as commands
+use Rattle.ofit_words.specs.declared.key.Key.{Key}
+use Rattle.ofit_words.specs.declared.job.Job.{Job}
+use Rattle.ofit_words.specs.declared.fault.WordFault.{WordFault}
+use Rattle.ofit_words.specs.declared.fault.WordFault.TheVariants.{NoCommand, UnknownCommand, MissingName, LevelOutOfRange, UnknownSetting, RepeatedSetting, BadSetting, BoundsCross, Memory}
+use Rattle.ofit_words.specs.Commands.{command_name, name_count, has_key, Sets}
+use Rattle.ofit_words.specs.Values.{IsNumberIn}
+use Rattle.ofit_words.specs.Given.{NoneSets, Given, AreInForce, IsUnknown, IsFine, AreFine}
+use Rattle.ofit_words.specs.Judged.{Judged, HasFault, UnlessMemory}
+use Rattle.ofit_words.specs.Words.{IsCall, AllFine, WordsRead, IsJobInLimits}
+use Rattle.ofit_words.specs.Made.{JobMade, InputsMade, IsNoLevel}
+use Rattle.ofit_words.proofs.Settled.{one_setting, not_true, not_false}
+
+-- a key that the command doesn't have makes the word an unknown one
+pub unknown_from : (command : Command) (word : List ℕ) (key : Key) (value : List ℕ) → Sets word key value → has_key command key ≡ false → IsUnknown command word
+unknown_from command word key value s h = λ k v has t. not_false (sym has ∙ ap (has_key command) (one_setting k key v value (sym t ∙ s)).0 ∙ h)
+
+pub earlier_from : (before : List (List ℕ)) (key : Key) (r : Option (List ℕ)) → is_some r ≡ true → Given before key r → (v : List ℕ) × Given before key (Some v)
+earlier_from before key (Some v) e g = (v, g)
+earlier_from before key None e g = absurd (not_true e)
+
+pub first_from : (before : List (List ℕ)) (key : Key) (r : Option (List ℕ)) → is_some r ≡ false → Given before key r → NoneSets before key
+first_from before key (Some v) e g = absurd (not_false e)
+first_from before key None e g = g
+
+pub fine_more : (command : Command) (places groups : ℕ) (before words : List (List ℕ)) (word : List ℕ) → AreFine command places groups before words → IsFine command places groups (before ++ words) word
+    → AreFine command places groups before (words ++ word ∷ [])
+fine_more command places groups before [] word f h = (let P : List (List ℕ) → Type 0 = λ b. IsFine command places groups b word in subst P (append-nil before) h, tt)
+fine_more command places groups before (w ∷ ws) word f h =
+    (f.0, fine_more command places groups (before ++ w ∷ []) ws word f.1 (let P : List (List ℕ) → Type 0 = λ b. IsFine command places groups b word in subst P (sym (append_assoc before (w ∷ []) ws)) h))
+
+pub unless : (fault : WordFault) (P : Type 0) → P → UnlessMemory fault P
+unless Memory P h = tt
+unless NoCommand P h = h
+unless UnknownCommand P h = h
+unless MissingName P h = h
+unless LevelOutOfRange P h = h
+unless (UnknownSetting place) P h = h
+unless (RepeatedSetting place) P h = h
+unless (BadSetting place) P h = h
+unless BoundsCross P h = h
+
+moved : (words : List (List ℕ)) (command : Command) (names ss ts : List (List ℕ)) → ss ≡ ts → IsCall words command names ss → IsCall words command names ts
+moved words command names ss ts e h = let P : List (List ℕ) → Type 0 = IsCall words command names in subst P e h
+
+in_force_moved : (ss ts : List (List ℕ)) (places groups : ℕ) → ss ≡ ts → AreInForce ss places groups → AreInForce ts places groups
+in_force_moved ss ts places groups e h = let P : List (List ℕ) → Type 0 = λ s. AreInForce s places groups in subst P e h
+
+-- the fault of a setting is the first of all the words
+pub fault_of_words : (fault : WordFault) (words : List (List ℕ)) (command : Command) (names ss : List (List ℕ)) (places groups : ℕ) → IsCall words command names ss → AreInForce ss places groups
+    → UnlessMemory fault (HasFault command places groups ss fault) → WordsRead words (Err fault)
+fault_of_words Memory words command names ss places groups c f h = tt
+fault_of_words NoCommand words command names ss places groups c f h = absurd h.judged
+fault_of_words UnknownCommand words command names ss places groups c f h = absurd h.judged
+fault_of_words MissingName words command names ss places groups c f h = absurd h.judged
+fault_of_words LevelOutOfRange words command names ss places groups c f h = absurd h.judged
+fault_of_words BoundsCross words command names ss places groups c f h = absurd h.judged
+fault_of_words (UnknownSetting n) words command names ss places groups c f h = (
+  command,
+  places,
+  groups,
+  h.before,
+  h.word,
+  record {
+    names = names;
+    after = h.after;
+    call = moved words command names ss (h.before ++ h.word ∷ h.after) h.spells c;
+    in_force = in_force_moved ss (h.before ++ h.word ∷ h.after) places groups h.spells f;
+    fine = h.fine;
+    at = h.judged.0;
+  },
+  h.judged.1,
+)
+fault_of_words (RepeatedSetting n) words command names ss places groups c f h = (
+  command,
+  places,
+  groups,
+  h.before,
+  h.word,
+  record {
+    names = names;
+    after = h.after;
+    call = moved words command names ss (h.before ++ h.word ∷ h.after) h.spells c;
+    in_force = in_force_moved ss (h.before ++ h.word ∷ h.after) places groups h.spells f;
+    fine = h.fine;
+    at = h.judged.0;
+  },
+  h.judged.1,
+)
+fault_of_words (BadSetting n) words command names ss places groups c f h = (
+  command,
+  places,
+  groups,
+  h.before,
+  h.word,
+  record {
+    names = names;
+    after = h.after;
+    call = moved words command names ss (h.before ++ h.word ∷ h.after) h.spells c;
+    in_force = in_force_moved ss (h.before ++ h.word ∷ h.after) places groups h.spells f;
+    fine = h.fine;
+    at = h.judged.0;
+  },
+  h.judged.1,
+)
+
+-- a level that isn't one
+pub no_level_of_words : (words : List (List ℕ)) (command : Command) (names ss : List (List ℕ)) → words ≡ command_name command ∷ (names ++ ss) → IsNoLevel command names → WordsRead words (Err LevelOutOfRange)
+no_level_of_words words command names ss e h = (h.1.0, ss, e ∙ ap (λ c. command_name c ∷ (names ++ ss)) h.0 ∙ ap (λ (ns : List (List ℕ)). command_name commands.Levels ∷ (ns ++ ss)) h.1.1, h.1.2)
+
+-- the words are read as the job that is made, or their bounds cross
+pub made_of_words : (r : Result Job WordFault) (words : List (List ℕ)) (command : Command) (names ss : List (List ℕ)) (places groups : ℕ) → IsCall words command names ss → AreInForce ss places groups
+    → AreFine command places groups [] ss → JobMade command names ss r → WordsRead words r
+made_of_words (Ok job) words command names ss places groups c f a h = (command, names, ss, record { places = places; groups = groups; call = c; in_force = f; fine = a }, h.0)
+made_of_words (Err BoundsCross) words command names ss places groups c f a h = (command, names, ss, h.0, record { places = places; groups = groups; call = c; in_force = f; fine = a }, h.1, h.2)
+made_of_words (Err Memory) words command names ss places groups c f a h = tt
+made_of_words (Err NoCommand) words command names ss places groups c f a h = absurd h
+made_of_words (Err UnknownCommand) words command names ss places groups c f a h = absurd h
+made_of_words (Err MissingName) words command names ss places groups c f a h = absurd h
+made_of_words (Err LevelOutOfRange) words command names ss places groups c f a h = no_level_of_words words command names ss c.spells h
+made_of_words (Err (UnknownSetting n)) words command names ss places groups c f a h = absurd h
+made_of_words (Err (RepeatedSetting n)) words command names ss places groups c f a h = absurd h
+made_of_words (Err (BadSetting n)) words command names ss places groups c f a h = absurd h
+
+pub limits_of_made : (r : Result Job WordFault) (command : Command) (names ss : List (List ℕ)) → JobMade command names ss r → IfOk r IsJobInLimits
+limits_of_made (Ok job) command names ss h = h.1
+limits_of_made (Err f) command names ss h = tt
+
+pub fault_of_inputs : (fault : WordFault) (table : List ℕ) (command : Command) (names ss : List (List ℕ)) → InputsMade table ss (Err fault) → JobMade command names ss (Err fault)
+fault_of_inputs BoundsCross table command names ss h = h
+fault_of_inputs Memory table command names ss h = tt
+fault_of_inputs NoCommand table command names ss h = absurd h
+fault_of_inputs UnknownCommand table command names ss h = absurd h
+fault_of_inputs MissingName table command names ss h = absurd h
+fault_of_inputs LevelOutOfRange table command names ss h = absurd h
+fault_of_inputs (UnknownSetting n) table command names ss h = absurd h
+fault_of_inputs (RepeatedSetting n) table command names ss h = absurd h
+fault_of_inputs (BadSetting n) table command names ss h = absurd h
+
+pub judged_moved : (A : Type 0) (fault : WordFault) (command : Command) (places groups : ℕ) (b d : List (List ℕ)) (v w : List ℕ) (n m : ℕ) → b ≡ d → v ≡ w → n ≡ m
+    → Judged {A = A} command places groups b v n (Err fault) → Judged {A = A} command places groups d w m (Err fault)
+judged_moved A fault command places groups b d v w n m e f g h =
+    let P : List (List ℕ) → Type 0 = λ x. Judged {A = A} command places groups x v n (Err fault) in
+    let Q : List ℕ → Type 0 = λ x. Judged {A = A} command places groups d x n (Err fault) in
+    let R : ℕ → Type 0 = λ x. Judged {A = A} command places groups d w x (Err fault) in
+    subst R g (subst Q f (subst P e h))
+
+pub fine_moved : (command : Command) (places groups : ℕ) (b d : List (List ℕ)) (v w : List ℕ) → b ≡ d → v ≡ w → IsFine command places groups b v → IsFine command places groups d w
+fine_moved command places groups b d v w e f h =
+    let P : List (List ℕ) → Type 0 = λ x. IsFine command places groups x v in
+    let Q : List ℕ → Type 0 = λ x. IsFine command places groups d x in
+    subst Q f (subst P e h)
+
+pub fine_along : (command : Command) (places groups : ℕ) (xs ys : List (List ℕ)) → xs ≡ ys → AreFine command places groups [] xs → AreFine command places groups [] ys
+fine_along command places groups xs ys e h = let P : List (List ℕ) → Type 0 = AreFine command places groups [] in subst P e h

@@ -1,0 +1,6 @@
+pub mod Commands
+pub mod Values
+pub mod Given
+pub mod Words
+pub mod Judged
+pub mod Made

@@ -1,0 +1,71 @@
+use crate::text::Text;
+use ofit_study::{LossKind, Pattern, Settings};
+
+/// The order of the groups: a pattern, or a file with its pairs.
+#[derive(Drop)]
+pub enum OrderChoice {
+    /// A pattern over the study's groups.
+    Shaped(Pattern),
+    /// The name of an order's file, of at least one byte.
+    File(Text),
+}
+
+/// What a fit is made from.
+#[derive(Drop)]
+pub struct Inputs {
+    /// The name of the data table.
+    pub table: Text,
+    /// The order of the groups.
+    pub order: OrderChoice,
+    /// The settings of the fit, within their limits.
+    pub settings: Settings,
+}
+
+/// The shape of a sample's order.
+#[derive(Clone, Copy, Debug, PartialEq, Eq)]
+pub enum Kind {
+    /// Each group is at most the next.
+    Chain,
+    /// The groups rise to one of them and fall from it.
+    Umbrella,
+    /// One group is at most each other.
+    Tree,
+    /// Any pairs.
+    General,
+}
+
+/// What a sample is made from.
+#[derive(Clone, Copy, Debug, PartialEq, Eq)]
+pub struct SampleJob {
+    /// The seed of the generator.
+    pub seed: u32,
+    /// The count of groups, from 1 to 2,000.
+    pub groups: u32,
+    /// The count of rows, from the count of groups to 10,000.
+    pub rows: u32,
+    /// The shape of the order.
+    pub kind: Kind,
+    /// The loss of the fit.
+    pub loss: LossKind,
+}
+
+/// What the words ask for.
+#[derive(Drop)]
+pub enum Job {
+    /// Print the sheet of a fit.
+    Fit(Inputs),
+    /// Print the report of a fit.
+    Report(Inputs),
+    /// Verify the sheet of this name.
+    Verify(Inputs, Text),
+    /// Run the script of this name.
+    Session(Inputs, Text),
+    /// Print the peaked sheet of a table at these decimal places.
+    Unimodal(Text, u32),
+    /// Verify the peaked sheet of the second name, of the table of the first, at these decimal places.
+    VerifyUnimodal(Text, Text, u32),
+    /// Print the level table for so many places, from 1 to 34.
+    Levels(u32),
+    /// Make a study and print its summary.
+    Sample(SampleJob),
+}

@@ -1,0 +1,23 @@
+//! The words of a call: a command, its names and its settings, read as a job or as the first fault.
+#![tactic(auto)]
+
+mod check;
+mod command;
+mod compare;
+mod fault;
+mod given;
+mod job;
+mod key;
+mod read;
+mod text;
+mod value;
+
+pub use command::Command;
+pub use fault::WordFault;
+pub use job::{Inputs, Job, Kind, OrderChoice, SampleJob};
+pub use key::Key;
+pub use read::read_words;
+pub use text::Text;
+
+#[cfg(test)]
+mod tests;
