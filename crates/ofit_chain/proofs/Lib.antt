@@ -1,1 +1,5 @@
-pub mod Pools
+pub mod Runs
+pub mod Rising
+pub mod Rows
+pub mod Values
+pub mod Cover

@@ -1,1 +1,4 @@
-pub mod Pool
+pub mod Chain
+pub mod Stretch
+pub mod Merge
+pub mod Covers

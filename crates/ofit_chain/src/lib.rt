@@ -1,7 +1,10 @@
 //! The chain fit: each group's value is at most the next one's.
 #![tactic(auto)]
 
+mod block;
 mod fit;
-mod pool;
 
-pub use fit::fit_squares;
+pub use fit::fit_chain;
+
+#[cfg(test)]
+mod tests;

@@ -12,6 +12,7 @@ use Rattle.ofit_num.proofs.Gap.{is_gap, gap-same, gap-add, gap-mul, pos-gap, dis
 use Rattle.ofit_num.proofs.Order.{natural, mul_strict, zero_mul_ℤ, mul_zero_ℤ, swap_ℤ, pow_above}
 use Rattle.ofit_loss.specs.Rows.{AreFittable}
 use Rattle.ofit_loss.specs.Laws.{HasLossLaws}
+use Rattle.ofit_loss.proofs.ProblemLaws.{some_degree}
 use Rattle.ofit_loss.specs.Least.{IsLeastMinimiser, IsLeastOfCheapest}
 
 -- Of two least minimisers neither is smaller.
@@ -79,9 +80,6 @@ module _ (m : Meaning) (strict : Bool) (laws : HasLossLaws m strict) (rows : Lis
     nothing (pos (m.degree * b.den ^ (m.degree - 1))) (b.num *ℤ pos c.den -ℤ c.num *ℤ pos b.den),
   )
 
-  some_degree : 0 < m.degree
-  some_degree = elim laws.degree [ inl e ↦ omega (arith, e) | inr e ↦ omega (arith, e) ]
-
   -- from the middle on the cost rises towards the smaller value
   middle_cheaper : (c b : Fraction) → IsLeastMinimiser m strict rows c → 0 < b.den → Below b c
       → m.cost rows (middle b c).num (middle b c).den * b.den ^ m.degree < m.cost rows b.num b.den * (middle b c).den ^ m.degree
@@ -91,7 +89,7 @@ module _ (m : Meaning) (strict : Bool) (laws : HasLossLaws m strict) (rows : Lis
     (laws.support rows fit).support (middle b c).num b.num (middle b c).den b.den (middle_den b c lb h.den) lb (m.least rows (middle b c).num (middle b c).den)
         (omega (arith, ints)) ((laws.support rows fit).ordered (middle b c).num (middle b c).den (middle_den b c lb h.den)),
     negative_product (m.degree * b.den ^ (m.degree - 1)) (m.least rows (middle b c).num (middle b c).den) (b.num *ℤ pos (middle b c).den -ℤ (middle b c).num *ℤ pos b.den)
-        (mul-pos some_degree (pow_above b.den (m.degree - 1) lb))
+        (mul-pos (some_degree m strict laws) (pow_above b.den (m.degree - 1) lb))
         (h.smaller (middle b c) (middle_den b c lb h.den) (middle_below b c h.den below))
         (omega (arith, ints, below_middle b c lb below)),
   )

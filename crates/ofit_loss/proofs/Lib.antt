@@ -6,3 +6,4 @@ pub mod MedianLeast
 pub mod ProblemLaws
 pub mod LeastMinimiser
 pub mod Entries
+pub mod StrictLoss

@@ -1,5 +1,5 @@
 -- A loss's laws over the groups of a problem, as fits and certificates take them.
-use Rattle.std.proofs.Common.{◌≡◌, ℕ, zero, suc, ◌-◌, ◌<◌, ◌^◌, List, [], ◌∷◌, ◌++◌, length, take, drop, subst, arith}
+use Rattle.std.proofs.Common.{◌≡◌, ℕ, zero, suc, ◌-◌, ◌<◌, ◌^◌, List, [], ◌∷◌, ◌++◌, length, take, drop, subst, arith, inl, inr}
 use Rattle.std.proofs.lemmas.List.Sums.{sum_by-append}
 use Rattle.std.specs.Prelude.{Bool, true, Any, ℤ, pos, ◌*ℤ◌, ◌≤ℤ◌, ◌<ℤ◌, slice_get, Some, unwrap_or, nat_lt, cond}
 use Rattle.ofit_num.specs.declared.row.Row.{Row}
@@ -34,6 +34,9 @@ groups_fittable groups pairs bounds h = record { groups = λ g l. at groups g l 
   at [] g l h = absurd (omega arith)
   at (rows ∷ groups) zero l h = fittable-front rows (all_rows groups) h
   at (rows ∷ groups) (suc g) l h = at groups g (omega arith) (fittable-back rows (all_rows groups) h)
+
+pub some_degree : (m : Meaning) (strict : Bool) → HasLossLaws m strict → 0 < m.degree
+some_degree m strict laws = elim laws.degree [ inl e ↦ omega (arith, e) | inr e ↦ omega (arith, e) ]
 
 module _ (m : Meaning) (strict : Bool) (laws : HasLossLaws m strict) (s : Problem) (fit : HasFittableGroups s) where
   pub problem_support : HasSupport m s

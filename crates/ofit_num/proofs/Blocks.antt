@@ -18,7 +18,7 @@ use Rattle.ofit_num.proofs.Pieces.{meet, set_sum-split, and_both, both_and}
 use Rattle.ofit_num.proofs.Recursion.{set_sum-le, not_above, not_below, above_zero, sum_falls, part_fitted, part_loses}
 
 -- a set has a place, or it has none
-member_or_none : (a : ℕ → Bool) (n : ℕ) → ((g : ℕ) × (g < n) × (a g ≡ true)) ⊎ ((g : ℕ) → g < n → a g ≡ false)
+pub member_or_none : (a : ℕ → Bool) (n : ℕ) → ((g : ℕ) × (g < n) × (a g ≡ true)) ⊎ ((g : ℕ) → g < n → a g ≡ false)
 member_or_none a zero = inr (λ g l. absurd (omega arith))
 member_or_none a (suc n) = go (a n) refl (member_or_none a n) where
   go : (x : Bool) → a n ≡ x → ((g : ℕ) × (g < n) × (a g ≡ true)) ⊎ ((g : ℕ) → g < n → a g ≡ false) → ((g : ℕ) × (g < suc n) × (a g ≡ true)) ⊎ ((g : ℕ) → g < suc n → a g ≡ false)
@@ -29,11 +29,11 @@ member_or_none a (suc n) = go (a n) refl (member_or_none a n) where
     | inr o ↦ elim o [ inl b ↦ none g b | inr b ↦ absurd (omega arith) ]
   ])
 
-set_sum-none : (a : ℕ → Bool) (c : ℕ → ℤ) (n : ℕ) → ((g : ℕ) → g < n → a g ≡ false) → set_sum a c n ≡ pos 0
+pub set_sum-none : (a : ℕ → Bool) (c : ℕ → ℤ) (n : ℕ) → ((g : ℕ) → g < n → a g ≡ false) → set_sum a c n ≡ pos 0
 set_sum-none a c zero h = refl
 set_sum-none a c (suc n) h = ap (λ (x : Bool). set_sum a c n +ℤ cond x (c n) (pos 0)) (h n (omega arith)) ∙ omega (arith, ints, set_sum-none a c n (λ g l. h g (omega arith)))
 
-set_sum-equal : (a b : ℕ → Bool) (c : ℕ → ℤ) (n : ℕ) → ((g : ℕ) → g < n → a g ≡ b g) → set_sum a c n ≡ set_sum b c n
+pub set_sum-equal : (a b : ℕ → Bool) (c : ℕ → ℤ) (n : ℕ) → ((g : ℕ) → g < n → a g ≡ b g) → set_sum a c n ≡ set_sum b c n
 set_sum-equal a b c zero h = refl
 set_sum-equal a b c (suc n) h = ap (λ (x : Bool). set_sum a c n +ℤ cond x (c n) (pos 0)) (h n (omega arith)) ∙ ap (λ (z : ℤ). z +ℤ cond (b n) (c n) (pos 0)) (set_sum-equal a b c n (λ g l. h g (omega arith)))
 
@@ -53,6 +53,24 @@ cost_times false x k l h = omega (arith, ints, mul_strict (pos 0) x k h l, zero_
 cost_of_times : (strict : Bool) (x : ℤ) (k : ℕ) → 0 < k → IsCost strict (x *ℤ pos k) → IsCost strict x
 cost_of_times true x k l h = not_below x k l h
 cost_of_times false x k l h = above_zero x k l h
+
+-- what is below a value is below each greater one
+pub below_trans : (a b c : Fraction) → 0 < a.den → 0 < b.den → 0 < c.den → Below a b → AtMost b c → Below a c
+below_trans a b c la lb lc h k = cancel_lt (a.num *ℤ pos c.den) (c.num *ℤ pos a.den) b.den lb
+    (omega (
+      arith,
+      ints,
+      mul_strict (a.num *ℤ pos b.den) (b.num *ℤ pos a.den) c.den h lc,
+      mul_pos (b.num *ℤ pos c.den) (c.num *ℤ pos b.den) a.den k,
+      turn a.num b.den c.den,
+      turn b.num a.den c.den,
+      turn c.num b.den a.den,
+    )) where
+      cancel_lt : (x y : ℤ) (n : ℕ) → 0 < n → (x *ℤ pos n) <ℤ (y *ℤ pos n) → x <ℤ y
+      cancel_lt x y n l h = by_lt_z x y (λ p. p) (λ q. absurd (omega (arith, ints, mul_pos y x n q)))
+
+      turn : (x : ℤ) (i j : ℕ) → (x *ℤ pos i) *ℤ pos j ≡ (x *ℤ pos j) *ℤ pos i
+      turn x i j = rw (is_gap x) (simp (pos-gap, gap-mul) (gap-same _ _ _ _ (omega arith)))
 
 module _ (m : Meaning) (s : Problem) (law : HasFallingSpans m s) where
   -- greatest ends fall too, and stay above the least ends of greater values
@@ -118,23 +136,6 @@ module _ (m : Meaning) (s : Problem) (law : HasFallingSpans m s) where
       | inl k ↦ cost_least strict _ (block_costs b inside lower k.0 k.1 k.2)
       | inr none ↦ omega (arith, ints, set_sum-none b (greatest_at m s value) s.count none)
     ]
-
-  below_trans : (a b c : Fraction) → 0 < a.den → 0 < b.den → 0 < c.den → Below a b → AtMost b c → Below a c
-  below_trans a b c la lb lc h k = cancel_lt (a.num *ℤ pos c.den) (c.num *ℤ pos a.den) b.den lb
-      (omega (
-        arith,
-        ints,
-        mul_strict (a.num *ℤ pos b.den) (b.num *ℤ pos a.den) c.den h lc,
-        mul_pos (b.num *ℤ pos c.den) (c.num *ℤ pos b.den) a.den k,
-        turn a.num b.den c.den,
-        turn b.num a.den c.den,
-        turn c.num b.den a.den,
-      )) where
-        cancel_lt : (x y : ℤ) (n : ℕ) → 0 < n → (x *ℤ pos n) <ℤ (y *ℤ pos n) → x <ℤ y
-        cancel_lt x y n l h = by_lt_z x y (λ p. p) (λ q. absurd (omega (arith, ints, mul_pos y x n q)))
-
-        turn : (x : ℤ) (i j : ℕ) → (x *ℤ pos i) *ℤ pos j ≡ (x *ℤ pos j) *ℤ pos i
-        turn x i j = rw (is_gap x) (simp (pos-gap, gap-mul) (gap-same _ _ _ _ (omega arith)))
 
   -- A block and the block of a child, of greater value, are one block at the value that pools them: its limit is the child's value.
   module _ (strict : Bool) (piece base child : ℕ → Bool) (top leaf : ℕ) (b be c ce t : Fraction)

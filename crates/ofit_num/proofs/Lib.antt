@@ -36,3 +36,5 @@ pub mod Fixed
 pub mod Floor
 pub mod ReadBack
 pub mod Quotients
+pub mod Lowered
+pub mod StrictBest

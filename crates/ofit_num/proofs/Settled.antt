@@ -20,7 +20,7 @@ use Rattle.ofit_num.proofs.Layers.{layered}
 use Rattle.ofit_num.proofs.Certified.{rise, low, high, factor, before, after, Holds, inside, ends_ordered, falls, climbs}
 
 -- the sum of terms that are at most 0
-none_above : (f : ℕ → ℤ) (n : ℕ) → ((k : ℕ) → k < n → f k ≤ℤ pos 0) → int_sum f n ≤ℤ pos 0
+pub none_above : (f : ℕ → ℤ) (n : ℕ) → ((k : ℕ) → k < n → f k ≤ℤ pos 0) → int_sum f n ≤ℤ pos 0
 none_above f zero h = omega (arith, ints)
 none_above f (suc n) h = omega (arith, ints, none_above f n (λ k l. h k (omega arith)), h n (omega arith))
 
@@ -34,20 +34,20 @@ some_above f zero h l p = absurd (omega arith)
 some_above f (suc zero) h l p = omega (arith, ints)
 some_above f (suc (suc n)) h l p = omega (arith, ints, some_above f (suc n) (λ k b. h k (omega arith)) (omega arith) p, h (suc n) (omega arith))
 
-up_mono : (y z : ℤ) → y ≤ℤ z → up y ≤ up z
+pub up_mono : (y z : ℤ) → y ≤ℤ z → up y ≤ up z
 up_mono (pos a) (pos b) h = omega (arith, ints)
 up_mono (pos a) (negsuc b) h = absurd (omega (arith, ints))
 up_mono (negsuc a) z h = omega arith
 
-down_mono : (y z : ℤ) → y ≤ℤ z → down z ≤ down y
+pub down_mono : (y z : ℤ) → y ≤ℤ z → down z ≤ down y
 down_mono y (pos b) h = omega arith
 down_mono (pos a) (negsuc b) h = absurd (omega (arith, ints))
 down_mono (negsuc a) (negsuc b) h = omega (arith, ints)
 
-lt_from : (k n : ℕ) → nat_lt k n ≡ true → k < n
+pub lt_from : (k n : ℕ) → nat_lt k n ≡ true → k < n
 lt_from k n e = grind (arith, nat_tests)
 
-lt_to : (k n : ℕ) → k < n → nat_lt k n ≡ true
+pub lt_to : (k n : ℕ) → k < n → nat_lt k n ≡ true
 lt_to k n h = grind (arith, nat_tests)
 
 -- between equal values of t, u rises as it does

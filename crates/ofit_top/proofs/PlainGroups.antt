@@ -3,7 +3,8 @@ use Rattle.std.proofs.Common.{◌≡◌, ℕ, zero, suc, ◌+◌, ◌<◌, ◌�
 use Rattle.std.proofs.lemmas.List.{map-append, length-map, get_or-map, take-append-drop}
 use Rattle.std.proofs.lemmas.List.Elements.{All-nil, All-cons, All-head, All-tail}
 use Rattle.std.proofs.lemmas.List.Sums.{sum_by-cons, sum_by_push, sum_by-append}
-use Rattle.std.specs.Prelude.{ℤ, All, map, sum_by}
+use Rattle.std.specs.Prelude.{ℤ, All, map, sum_by, nat_lt, Bool, false, cond}
+use Rattle.ofit_loss.specs.Rows.{AreFittable, special_count}
 use Rattle.ofit_num.specs.declared.row.Row.{Row}
 use Rattle.ofit_num.specs.Limits.{IsRowWithinLimits, AreWithinLimits, total_weight, all_rows}
 use Rattle.ofit_top.specs.declared.reading.Line.{Line}
@@ -66,3 +67,19 @@ weight_upto_line lines i l b e = omega (
   ap (sum_by (λ (o : Observation). o.weight)) (map-append observation_of (take (i + 1) lines) (drop (i + 1) lines)),
   sum_by-append (λ (o : Observation). o.weight) (observations (take (i + 1) lines)) (observations (drop (i + 1) lines)),
 )
+
+number_plain : (k : ℕ) → k ≤ 4294967293 → nat_lt 4294967293 k ≡ false
+number_plain k l = grind arith
+
+-- rows that are numbered from 1 on are plain
+no_special : (k : ℕ) (os : List Observation) → k + length os ≤ 4294967293 → special_count (all_rows (groups_from k os)) ≡ 0
+no_special k [] l = refl
+no_special k (o ∷ os) l = omega (
+  arith,
+  sum_by-cons (λ (r : Row). cond (nat_lt 4294967293 r.number) 1 0) (record { number = k; value = o.value; weight = o.weight }) (all_rows (groups_from (k + 1) os)),
+  ap {B = ℕ} (λ (b : Bool). cond b 1 0) (number_plain k (omega arith)),
+  no_special (k + 1) os (omega arith),
+)
+
+pub groups_fittable : (os : List Observation) → ArePlain os → AreFittable (all_rows (groups_from 1 os))
+groups_fittable os h = record { limits = groups_within 1 os h; special = omega (arith, no_special 1 os (omega (arith, h.count))) }

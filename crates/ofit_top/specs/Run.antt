@@ -6,11 +6,14 @@ use Rattle.ofit_outside.specs.Faults.{Rose}
 use Rattle.ofit_outside.specs.Folder.{Held}
 use Rattle.ofit_outside.specs.Sink.{with_more, GainsPrefix}
 use Rattle.ofit_num.specs.Fraction.{Fraction}
+use Rattle.ofit_num.specs.Fit.{LeastBestValues}
+use Rattle.ofit_num.specs.Loss.{squares}
+use Rattle.ofit_chain.specs.Chain.{chain_problem}
 use Rattle.ofit_num.specs.Tally.{Counts}
 use Rattle.ofit_top.specs.declared.answer.Answer.{Answer}
 use Rattle.ofit_top.specs.declared.answer.Answer.TheVariants.{Done, Refused, ReadFault, WriteFault, Memory}
 use Rattle.ofit_top.specs.declared.answer.Refusal.TheVariants.{FileMissing, FileLong, NotBuilt}
-use Rattle.ofit_top.specs.PlainTable.{Observation, ArePlain, table_text}
+use Rattle.ofit_top.specs.PlainTable.{Observation, ArePlain, table_text, groups_from}
 use Rattle.ofit_top.specs.SheetText.{NamedFlow, sheet_text}
 
 -- the bytes of each word
@@ -25,9 +28,9 @@ fit_words name = codes "fit" ∷ name ∷ codes "order=chain" ∷ codes "places=
 abbrev pub file_limit : ℕ
 file_limit = 32 * 2 ^ 20
 
--- a sheet of some values, one for each group, and some flows
+-- a sheet of the least best values of the chain under squares, one for each group, and of some flows
 abbrev pub IsSheetOf : List Observation → List ℕ → Type 0
-IsSheetOf os text = (values : List Fraction) × (flows : List NamedFlow) × (length values ≡ length os) × (text ≡ sheet_text os values flows)
+IsSheetOf os text = (values : List Fraction) × (flows : List NamedFlow) × (length values ≡ length os) × LeastBestValues squares (chain_problem (groups_from 1 os)) values × (text ≡ sheet_text os values flows)
 
 -- the file is held, is not too long, and is this table
 pub record HoldsTable (held : Held) (name : List ℕ) (os : List Observation) : Type 0 where

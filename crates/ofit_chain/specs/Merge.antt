@@ -1,0 +1,13 @@
+-- Pools of neighbours that can be joined, and have a row.
+use Rattle.std.specs.Prelude.{◌<◌, List, ◌++◌, length}
+use Rattle.ofit_num.specs.declared.row.Row.{Row}
+use Rattle.ofit_loss.specs.Rows.{AreFittable}
+
+-- the pools are of rows that a loss takes together, of which there is at least one
+pub record CanMerge {P : Type 0} (IsPoolOf : P → List Row → Type 0) (left right : P) : Type 0 where
+  pub front : List Row
+  pub back : List Row
+  pub left_pooled : IsPoolOf left front
+  pub right_pooled : IsPoolOf right back
+  pub fittable : AreFittable (front ++ back)
+  pub some : 0 < length (front ++ back)
