@@ -3,3 +3,4 @@ pub mod Rising
 pub mod Rows
 pub mod Values
 pub mod Cover
+pub mod SmallRows

@@ -7,4 +7,6 @@ mod fit;
 pub use fit::fit_chain;
 
 #[cfg(test)]
+mod search_tests;
+#[cfg(test)]
 mod tests;

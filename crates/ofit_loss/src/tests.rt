@@ -108,3 +108,28 @@ fn spans_of_squares_are_one_balance(rt: HostRuntime) {
     assert_eq!(rt; span_of::<Squares>(&rows, 41, 7), Some((0, 0)));
     assert_eq!(rt; span_of::<Squares>(&rows, 13, 2), Some((-9, -9)));
 }
+
+#[test]
+fn the_greatest_weights_and_values_are_taken(rt: HostRuntime) -> Result<(), Fail> {
+    let alloc = rt.alloc();
+    let ends = [
+        row(1_000_000_000, 5_000_000_000),
+        row(-1_000_000_000, 5_000_000_000),
+    ];
+    let most = [row(1_000_000_000, 10_000_000_000)];
+    assert_eq!(rt; least_of::<Squares>(alloc, &ends)?, (0, 1));
+    assert_eq!(rt; least_of::<Median>(alloc, &ends)?, (-1_000_000_000, 1));
+    assert_eq!(rt; least_of::<Squares>(alloc, &most)?, (1_000_000_000, 1));
+    assert_eq!(rt; least_of::<Median>(alloc, &most)?, (1_000_000_000, 1));
+    let greatest: i128 = 1_000_000_000_000_000_000_000;
+    let balance: i128 = 10_000_000_000_000_000_000_000_000_000_000;
+    assert_eq!(rt;
+        span_of::<Squares>(&ends, -greatest, 1),
+        Some((balance, balance))
+    );
+    assert_eq!(rt;
+        span_of::<Median>(&ends, -greatest, 1),
+        Some((10_000_000_000, 10_000_000_000))
+    );
+    Ok(())
+}

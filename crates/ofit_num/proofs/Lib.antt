@@ -38,3 +38,7 @@ pub mod ReadBack
 pub mod Quotients
 pub mod Lowered
 pub mod StrictBest
+pub mod Moved
+pub mod BestSettled
+pub mod TableSettled
+pub mod FractionOrder

@@ -1,6 +1,8 @@
 -- Decimals, by the cases of their grammar, and the canonical text of a number of units.
-use Rattle.std.specs.Prelude.{◌≡◌, ℕ, ◌+◌, ◌*◌, ◌^◌, ◌≤◌, ◌<◌, ◌⊎◌, Bool, true, false, List, [], ◌∷◌, ◌++◌, length, codes, ℤ, pos, negsuc, ◌+ℤ◌, unsigned_abs, ⊤}
+use Rattle.std.specs.Prelude.{◌≡◌, ℕ, ◌+◌, ◌*◌, ◌^◌, ◌≤◌, ◌<◌, ◌⊎◌, Bool, true, false, List, [], ◌∷◌, ◌++◌, length, codes, ℤ, pos, negsuc, ◌+ℤ◌, unsigned_abs, Result, Ok, Err, ⊤}
 use Rattle.std.specs.List.{AllByRecursion}
+use Rattle.ofit_num.specs.declared.decimal.NumFault.{NumFault}
+use Rattle.ofit_num.specs.declared.decimal.NumFault.TheVariants.{NotNumber, TooFine, TooLarge}
 use Rattle.ofit_num.specs.NumberText.{IsDigit, IsWhole, spelled_after}
 use Rattle.ofit_num.specs.Reduced.{negated}
 
@@ -90,6 +92,14 @@ pub record IsNumber (text : List ℕ) : Type 0 where
   pub f : ℕ
   pub x : ℤ
   pub decimal : IsDecimal text negative m f x
+
+-- What a text is read as, in units of 10^(-places) and under a limit: the number of units; or the first of three faults:
+-- it isn't a decimal, its number isn't a whole number of units, the number passes the limit in absolute value.
+abbrev pub UnitsRead : List ℕ → ℕ → ℕ → Result ℤ NumFault → Type 0
+UnitsRead text places limit (Ok z) = IsUnits text places z × (unsigned_abs z ≤ limit)
+UnitsRead text places limit (Err NotNumber) = IsNumber text → ⊥
+UnitsRead text places limit (Err TooFine) = IsNumber text × ((z : ℤ) → IsUnits text places z → ⊥)
+UnitsRead text places limit (Err TooLarge) = (z : ℤ) × IsUnits text places z × (limit < unsigned_abs z)
 
 abbrev pub minus_of : ℤ → List ℕ
 minus_of (pos n) = []

@@ -1,7 +1,7 @@
 ghost use Rattle.std.specs.Prelude.{◌≡◌, ◌↔◌, ◌+◌, ◌-◌, ◌*◌, ◌≤◌, ◌<◌, ◌^◌, ◌++◌, ◌∷◌, ◌⊎◌, [], ℕ, ℤ, Bool, false, List, length, IsTrue, IfSome, IfNone, IfOk, IsErrOf, OnOk, OnErr, Ok, Err, MatchOption, pos, ◌≤ℤ◌, ◌+ℤ◌, unsigned_abs};
 ghost use Rattle.std.specs.List.{AllByRecursion};
 ghost use Rattle.ofit_num.specs.NumberText.{IsDigit, spelled_after};
-ghost use Rattle.ofit_num.specs.DecimalText.{IsSpaces, IsSign, IsPower, IsEnd, IsUnsigned, IsPoint, IsDecimal, IsScaled, IsUnits, IsNumber, Stops, with_sign};
+ghost use Rattle.ofit_num.specs.DecimalText.{IsSpaces, IsSign, IsPower, IsEnd, IsUnsigned, IsPoint, IsDecimal, IsScaled, IsUnits, IsNumber, IsFixed, UnitsRead, Stops, with_sign};
 
 mod append;
 mod digits;
@@ -12,15 +12,19 @@ pub use append::append_decimal;
 use digits::{after_spaces, are_spaces, digits_of, spelled};
 pub use laws::{decimal_texts_are_canonical, decimals_are_read_back};
 use scale::{Digits, scaled};
+use thiserror::Error;
 
 /// Why a text gives no number of units.
-#[derive(Clone, Copy, Debug, PartialEq, Eq)]
+#[derive(Clone, Copy, Debug, PartialEq, Eq, Error)]
 pub enum NumFault {
     /// The text isn't a decimal.
+    #[error("not a number")]
     NotNumber,
     /// The number isn't a whole number of units.
+    #[error("too many decimals")]
     TooFine,
     /// The number of units passes the limit in absolute value.
+    #[error("number too large")]
     TooLarge,
 }
 
@@ -223,16 +227,15 @@ fn units_of(text: &[u8], places: u32, limit: i64) -> Result<i64, NumFault>
 /// Time linear in the text, and no memory, however many digits it has and whatever its power of ten.
 /// The digits that the power and the places leave behind the point must all be `0`, and are only looked
 /// at. The number is made from the other ones and at most 1,005 further zeros, and is given up as soon as
-/// it passes the limit; zeros in front leave it at 0. So it never passes ten times the limit.
+/// it passes the limit; zeros in front leave it at 0. So it never passes ten times the limit and nine.
 pub fn read_decimal(text: &[u8], places: u32, limit: i64) -> Result<i64, NumFault>
     requires places { places ≤ 6 }
     requires limit { pos 0 ≤ℤ limit }
-    ensures ok { IfOk result (λ z. IsUnits text.now places z × (unsigned_abs z ≤ unsigned_abs limit)) }
-    ensures not_number { IsErrOf result NumFault.NotNumber → IsNumber text.now → ⊥ }
-    ensures too_fine { IsErrOf result NumFault.TooFine → IsNumber text.now × ((z : ℤ) → IsUnits text.now places z → ⊥) }
-    ensures too_large { IsErrOf result NumFault.TooLarge → (z : ℤ) × IsUnits text.now places z × (unsigned_abs limit < unsigned_abs z) }
+    ensures read { UnitsRead text.now places (unsigned_abs limit) result }
     // so each text of a number within the limit is read
     ensures reads { (z : ℤ) → IsUnits text.now places z → unsigned_abs z ≤ unsigned_abs limit → result ≡ Ok z }
+    // one that was appended among them
+    ensures reads_back { (z : ℤ) → IsFixed text.now z places → unsigned_abs z ≤ unsigned_abs limit → result ≡ Ok z }
 {
     units_of(text, places, limit)
 }

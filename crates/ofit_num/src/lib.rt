@@ -18,7 +18,10 @@ pub use decimal::{
 };
 pub use frac::Frac;
 pub use groups::Groups;
-pub use laws::{signed_texts_are_canonical, whole_texts_are_canonical};
+pub use laws::{
+    best_is_settled, least_best_values_are_unique, signed_texts_are_canonical,
+    whole_texts_are_canonical,
+};
 pub use row::Row;
 pub use tally::Tally;
 pub use terms::lowest;

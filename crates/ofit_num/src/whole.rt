@@ -1,12 +1,17 @@
-ghost use Rattle.std.specs.Prelude.{◌≡◌, ◌↔◌, ◌+◌, ◌-◌, ◌*◌, ◌≤◌, ◌<◌, ◌^◌, ℕ, ℤ, All, IsTrue, MatchOption, IfOk, IsErrOf, Err, false, true, negsuc, pos, unsigned_abs};
+ghost use Rattle.std.specs.Prelude.{◌≡◌, ◌↔◌, ◌+◌, ◌-◌, ◌*◌, ◌≤◌, ◌<◌, ◌^◌, ℕ, ℤ, All, IsTrue, MatchOption, IfOk, IsErrOf, Ok, Err, List, decimal, false, true, negsuc, pos, unsigned_abs};
+ghost use Rattle.std.specs.Fmt.{signed_decimal};
 ghost use Rattle.ofit_num.specs.NumberText.{IsDigit, IsWhole, IsSigned, spelled_after};
 
+use thiserror::Error;
+
 /// Why a text gives no number of the kind that is asked for.
-#[derive(Clone, Copy, Debug, PartialEq, Eq)]
+#[derive(Clone, Copy, Debug, PartialEq, Eq, Error)]
 pub enum WholeFault {
     /// The text isn't the canonical one of any number.
+    #[error("not a whole number")]
     NotWhole,
     /// The number passes the limit.
+    #[error("number too large")]
     TooLarge,
 }
 
@@ -60,9 +65,8 @@ fn is_whole(text: &[u8]) -> bool
     }
 }
 
-/// The number that a canonical whole number spells: `0`, or a digit 1 to 9 followed by digits. Time
-/// linear in the text, however long.
-pub fn read_whole(text: &[u8], limit: u128) -> Result<u128, WholeFault>
+/// The number that a canonical whole number spells.
+fn whole_of(text: &[u8], limit: u128) -> Result<u128, WholeFault>
     ensures ok { IfOk result (λ n. IsWhole text.now n × (n ≤ limit)) }
     ensures not_whole { IsErrOf result WholeFault.NotWhole → (n : ℕ) → IsWhole text.now n → ⊥ }
     ensures too_large { IsErrOf result WholeFault.TooLarge → (n : ℕ) × IsWhole text.now n × (limit < n) }
@@ -82,9 +86,22 @@ pub fn read_whole(text: &[u8], limit: u128) -> Result<u128, WholeFault>
     }
 }
 
-/// The number that a canonical signed number spells: a canonical whole number, or `-` followed by
-/// one that isn't `0`. The limit is on its absolute value. Time linear in the text.
-pub fn read_signed(text: &[u8], limit: u128) -> Result<i128, WholeFault>
+/// The number that a canonical whole number spells: `0`, or a digit 1 to 9 followed by digits. Time
+/// linear in the text, however long.
+pub fn read_whole(text: &[u8], limit: u128) -> Result<u128, WholeFault>
+    ensures ok { IfOk result (λ n. IsWhole text.now n × (n ≤ limit)) }
+    ensures not_whole { IsErrOf result WholeFault.NotWhole → (n : ℕ) → IsWhole text.now n → ⊥ }
+    ensures too_large { IsErrOf result WholeFault.TooLarge → (n : ℕ) × IsWhole text.now n × (limit < n) }
+    // so each text of a number within the limit is read
+    ensures reads { (n : ℕ) → IsWhole text.now n → n ≤ limit → result ≡ Ok n }
+    // one that was appended among them
+    ensures reads_back { (n : ℕ) → text.now ≡ decimal n → n ≤ limit → result ≡ Ok n }
+{
+    whole_of(text, limit)
+}
+
+/// The number that a canonical signed number spells.
+fn signed_of(text: &[u8], limit: u128) -> Result<i128, WholeFault>
     requires { limit ≤ 10 ^ 38 }
     ensures ok { IfOk result (λ z. IsSigned text.now z × (unsigned_abs z ≤ limit)) }
     ensures not_whole { IsErrOf result WholeFault.NotWhole → (z : ℤ) → IsSigned text.now z → ⊥ }
@@ -94,17 +111,32 @@ pub fn read_signed(text: &[u8], limit: u128) -> Result<i128, WholeFault>
         None => Err(WholeFault::NotWhole),
         Some((first, rest)) => {
             if *first == b'-' {
-                match read_whole(rest, limit) {
+                match whole_of(rest, limit) {
                     Ok(0) => Err(WholeFault::NotWhole),
                     Ok(size) => Ok(-(size as i128)),
                     Err(fault) => Err(fault),
                 }
             } else {
-                match read_whole(text, limit) {
+                match whole_of(text, limit) {
                     Ok(number) => Ok(number as i128),
                     Err(fault) => Err(fault),
                 }
             }
         }
     }
+}
+
+/// The number that a canonical signed number spells: a canonical whole number, or `-` followed by
+/// one that isn't `0`. The limit is on its absolute value. Time linear in the text.
+pub fn read_signed(text: &[u8], limit: u128) -> Result<i128, WholeFault>
+    requires { limit ≤ 10 ^ 38 }
+    ensures ok { IfOk result (λ z. IsSigned text.now z × (unsigned_abs z ≤ limit)) }
+    ensures not_whole { IsErrOf result WholeFault.NotWhole → (z : ℤ) → IsSigned text.now z → ⊥ }
+    ensures too_large { IsErrOf result WholeFault.TooLarge → (z : ℤ) × IsSigned text.now z × (limit < unsigned_abs z) }
+    // so each text of a number within the limit is read
+    ensures reads { (z : ℤ) → IsSigned text.now z → unsigned_abs z ≤ limit → result ≡ Ok z }
+    // one that was appended among them
+    ensures reads_back { (z : ℤ) → text.now ≡ signed_decimal z → unsigned_abs z ≤ limit → result ≡ Ok z }
+{
+    signed_of(text, limit)
 }

@@ -26,7 +26,7 @@ Contains-pair_cons q qs p h = (suc h.0, omega (arith, h.1), h.2)
 abbrev count_at : (ℕ × ℕ → ℕ) → List (ℕ × ℕ) → ℕ → ℕ
 count_at key ps a = count_by (λ p. key p == a) ps
 
-count_some : (key : ℕ × ℕ → ℕ) (ps : List (ℕ × ℕ)) (p : ℕ × ℕ) → Contains ps p → 1 ≤ count_at key ps (key p)
+pub count_some : (key : ℕ × ℕ → ℕ) (ps : List (ℕ × ℕ)) (p : ℕ × ℕ) → Contains ps p → 1 ≤ count_at key ps (key p)
 count_some key ps p h =
     let test = λ (q : ℕ × ℕ). cond (key q == key p) 1 0 in
     let bound = get_or-le-sum_by test ps h.0 p h.1 in
@@ -54,7 +54,7 @@ count_once key (r ∷ rs) p q e few h k =
       ]
     ]
 
-count_exists : (key : ℕ × ℕ → ℕ) (ps : List (ℕ × ℕ)) (a : ℕ) → 1 ≤ count_at key ps a → (p : ℕ × ℕ) × (key p ≡ a) × Contains ps p
+pub count_exists : (key : ℕ × ℕ → ℕ) (ps : List (ℕ × ℕ)) (a : ℕ) → 1 ≤ count_at key ps a → (p : ℕ × ℕ) × (key p ≡ a) × Contains ps p
 count_exists key [] a l = absurd (omega (arith, l))
 count_exists key (r ∷ rs) a l =
     let more = sum_by-cons (λ (t : ℕ × ℕ). cond (key t == a) 1 0) r rs in

@@ -13,3 +13,4 @@ pub mod OneLeft
 pub mod Leading
 pub mod Trees
 pub mod Shaping
+pub mod Steps

@@ -1,4 +1,4 @@
-ghost use Rattle.std.specs.Prelude.{◌≡◌, ◌<◌, ◌↔◌, ℕ};
+ghost use Rattle.std.specs.Prelude.{◌≡◌, ◌<◌, ◌^◌, ◌↔◌, ℕ, List};
 ghost use Rattle.std.specs.List.{Contains};
 ghost use Rattle.ofit_order.specs.Relation.{AreInOrder, AreWithin};
 ghost use Rattle.ofit_order.specs.Connection.{LeadsUp, AreConnected};
@@ -35,12 +35,22 @@ impl Model for Order {
 }
 
 impl Order {
-    /// How many components there are.
+    /// The distinct pairs of a low and a high place, by low place and then by high place.
+    pub fn pairs(&self) -> &[(u32, u32)]
+        ensures { result.now ≡ self.now.pairs }
+    {
+        self.pairs.as_slice()
+    }
+
+    /// How many components there are. Each place lies in one of them, and each has its list of places.
     pub fn component_count(&self) -> u32
         ensures count { IsComponentCount self.now result }
         ensures in_order { AreInOrder self.now.pairs }
         ensures within { AreWithin self.now.pairs self.now.places }
+        ensures small { self.now.places < 2 ^ 32 }
         ensures each { (k : ℕ) → k < result → HasComponent self.now k }
+        ensures covers { (p : ℕ) → p < self.now.places → (k : ℕ) × (k < result) × IsComponentOf self.now k p }
+        ensures listed { (k : ℕ) → k < result → (members : List ℕ) × AreMembers self.now k members }
     {
         self.members.len() as u32
     }

@@ -1,0 +1,8 @@
+pub mod Clones
+pub mod EndLists
+pub mod GroupNames
+pub mod NameSets
+pub mod PairLists
+pub mod Pairing
+pub mod Pushing
+pub mod Stating

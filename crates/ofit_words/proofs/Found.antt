@@ -1,18 +1,17 @@
 -- what is found of the settings
-use Rattle.std.proofs.Common.{◌≡◌, ℕ, ◌+◌, List, [], ◌∷◌, ◌++◌, length, refl, sym, ap, ◌∙◌, subst, append_assoc, arith}
+use Rattle.std.proofs.Common.{◌≡◌, ℕ, List, [], ◌∷◌, ◌++◌, refl, sym, ap, ◌∙◌, subst, append_assoc, inl, inr}
 use Rattle.std.proofs.lemmas.List.{append-nil}
-use Rattle.std.specs.Prelude.{Bool, true, false, Option, Some, None, is_some, IfOk, Result, Ok, Err, ⊤}
+use Rattle.std.specs.Prelude.{true, false, Option, Some, None, is_some, IfOk, Result, Ok, Err, IsErrOf, ◌⊎◌}
 use Rattle.ofit_words.specs.declared.command.Command.{Command}
 use Rattle.ofit_words.specs.declared.command.Command.TheVariants as commands
 use Rattle.ofit_words.specs.declared.key.Key.{Key}
 use Rattle.ofit_words.specs.declared.job.Job.{Job}
 use Rattle.ofit_words.specs.declared.fault.WordFault.{WordFault}
 use Rattle.ofit_words.specs.declared.fault.WordFault.TheVariants.{NoCommand, UnknownCommand, MissingName, LevelOutOfRange, UnknownSetting, RepeatedSetting, BadSetting, BoundsCross, Memory}
-use Rattle.ofit_words.specs.Commands.{command_name, name_count, has_key, Sets}
-use Rattle.ofit_words.specs.Values.{IsNumberIn}
+use Rattle.ofit_words.specs.Commands.{command_name, has_key, Sets}
 use Rattle.ofit_words.specs.Given.{NoneSets, Given, AreInForce, IsUnknown, IsFine, AreFine}
 use Rattle.ofit_words.specs.Judged.{Judged, HasFault, UnlessMemory}
-use Rattle.ofit_words.specs.Words.{IsCall, AllFine, WordsRead, IsJobInLimits}
+use Rattle.ofit_words.specs.Words.{IsCall, WordsRead, IsJobInLimits}
 use Rattle.ofit_words.specs.Made.{JobMade, InputsMade, IsNoLevel}
 use Rattle.ofit_words.proofs.Settled.{one_setting, not_true, not_false}
 
@@ -53,14 +52,14 @@ in_force_moved ss ts places groups e h = let P : List (List ℕ) → Type 0 = λ
 
 -- the fault of a setting is the first of all the words
 pub fault_of_words : (fault : WordFault) (words : List (List ℕ)) (command : Command) (names ss : List (List ℕ)) (places groups : ℕ) → IsCall words command names ss → AreInForce ss places groups
-    → UnlessMemory fault (HasFault command places groups ss fault) → WordsRead words (Err fault)
-fault_of_words Memory words command names ss places groups c f h = tt
+    → UnlessMemory fault (HasFault command places groups ss fault) → IsErrOf {T = Job} (Err fault) Memory ⊎ WordsRead words (Err fault)
+fault_of_words Memory words command names ss places groups c f h = inl refl
 fault_of_words NoCommand words command names ss places groups c f h = absurd h.judged
 fault_of_words UnknownCommand words command names ss places groups c f h = absurd h.judged
 fault_of_words MissingName words command names ss places groups c f h = absurd h.judged
 fault_of_words LevelOutOfRange words command names ss places groups c f h = absurd h.judged
 fault_of_words BoundsCross words command names ss places groups c f h = absurd h.judged
-fault_of_words (UnknownSetting n) words command names ss places groups c f h = (
+fault_of_words (UnknownSetting n) words command names ss places groups c f h = inr (
   command,
   places,
   groups,
@@ -76,7 +75,7 @@ fault_of_words (UnknownSetting n) words command names ss places groups c f h = (
   },
   h.judged.1,
 )
-fault_of_words (RepeatedSetting n) words command names ss places groups c f h = (
+fault_of_words (RepeatedSetting n) words command names ss places groups c f h = inr (
   command,
   places,
   groups,
@@ -92,7 +91,7 @@ fault_of_words (RepeatedSetting n) words command names ss places groups c f h = 
   },
   h.judged.1,
 )
-fault_of_words (BadSetting n) words command names ss places groups c f h = (
+fault_of_words (BadSetting n) words command names ss places groups c f h = inr (
   command,
   places,
   groups,
@@ -115,14 +114,14 @@ no_level_of_words words command names ss e h = (h.1.0, ss, e ∙ ap (λ c. comma
 
 -- the words are read as the job that is made, or their bounds cross
 pub made_of_words : (r : Result Job WordFault) (words : List (List ℕ)) (command : Command) (names ss : List (List ℕ)) (places groups : ℕ) → IsCall words command names ss → AreInForce ss places groups
-    → AreFine command places groups [] ss → JobMade command names ss r → WordsRead words r
-made_of_words (Ok job) words command names ss places groups c f a h = (command, names, ss, record { places = places; groups = groups; call = c; in_force = f; fine = a }, h.0)
-made_of_words (Err BoundsCross) words command names ss places groups c f a h = (command, names, ss, h.0, record { places = places; groups = groups; call = c; in_force = f; fine = a }, h.1, h.2)
-made_of_words (Err Memory) words command names ss places groups c f a h = tt
+    → AreFine command places groups [] ss → JobMade command names ss r → IsErrOf r Memory ⊎ WordsRead words r
+made_of_words (Ok job) words command names ss places groups c f a h = inr (command, names, ss, record { places = places; groups = groups; call = c; in_force = f; fine = a }, h.0)
+made_of_words (Err BoundsCross) words command names ss places groups c f a h = inr (command, names, ss, h.0, record { places = places; groups = groups; call = c; in_force = f; fine = a }, h.1, h.2)
+made_of_words (Err Memory) words command names ss places groups c f a h = inl refl
 made_of_words (Err NoCommand) words command names ss places groups c f a h = absurd h
 made_of_words (Err UnknownCommand) words command names ss places groups c f a h = absurd h
 made_of_words (Err MissingName) words command names ss places groups c f a h = absurd h
-made_of_words (Err LevelOutOfRange) words command names ss places groups c f a h = no_level_of_words words command names ss c.spells h
+made_of_words (Err LevelOutOfRange) words command names ss places groups c f a h = inr (no_level_of_words words command names ss c.spells h)
 made_of_words (Err (UnknownSetting n)) words command names ss places groups c f a h = absurd h
 made_of_words (Err (RepeatedSetting n)) words command names ss places groups c f a h = absurd h
 made_of_words (Err (BadSetting n)) words command names ss places groups c f a h = absurd h

@@ -3,3 +3,8 @@ pub mod Lists
 pub mod Numbers
 pub mod Found
 pub mod Nine
+pub mod Names
+pub mod OneValue
+pub mod OneFault
+pub mod OneJob
+pub mod OneReading

@@ -1,5 +1,5 @@
 -- at most nine settings are fine, since each sets a key of its own
-use Rattle.std.proofs.Common.{◌≡◌, ℕ, zero, suc, ◌+◌, ◌<◌, ◌≤◌, List, [], ◌∷◌, ◌++◌, length, refl, sym, ap, ◌∙◌, subst, append_assoc, arith, inl, inr}
+use Rattle.std.proofs.Common.{◌≡◌, ℕ, zero, suc, ◌<◌, ◌≤◌, List, [], ◌∷◌, ◌++◌, length, refl, sym, ap, ◌∙◌, subst, append_assoc, arith, inl, inr}
 use Rattle.std.proofs.Math.Dec.{eqb}
 use Rattle.std.proofs.lemmas.Bool.Decides.{eqb_tells}
 use Rattle.std.proofs.lemmas.Map.Steps.{length-le_from_distinct_below}
@@ -10,7 +10,7 @@ use Rattle.ofit_words.specs.declared.command.Command.TheVariants.{Fit, Report, V
 use Rattle.ofit_words.specs.declared.key.Key.{Key}
 use Rattle.ofit_words.specs.declared.key.Key.TheVariants.{Order, Loss, Places, Lo, Hi, Seed, Groups, Rows, Shape}
 use Rattle.ofit_words.specs.Commands.{Sets, name_count}
-use Rattle.ofit_words.specs.Given.{NoneSets, IsFine, AreFine}
+use Rattle.ofit_words.specs.Given.{NoneSets, AreFine}
 use Rattle.ofit_words.proofs.Settled.{not_true, not_false}
 
 abbrev number : Key → ℕ
@@ -65,7 +65,7 @@ as_many : (c : Command) (p g : ℕ) (before words : List (List ℕ)) (f : AreFin
 as_many c p g before [] f = refl
 as_many c p g before (w ∷ ws) f = ap suc (as_many c p g (before ++ w ∷ []) ws f.1)
 
-none_at : (front back : List (List ℕ)) (w : List ℕ) (k : Key) → NoneSets (front ++ w ∷ back) k → (v : List ℕ) → Sets w k v → ⊥
+pub none_at : (front back : List (List ℕ)) (w : List ℕ) (k : Key) → NoneSets (front ++ w ∷ back) k → (v : List ℕ) → Sets w k v → ⊥
 none_at [] back w k h = h.0
 none_at (x ∷ xs) back w k h = none_at xs back w k h.1
 

@@ -1,6 +1,6 @@
 -- numbers that are in a range, or none
-use Rattle.std.proofs.Common.{◌≡◌, ℕ, ◌<◌, ◌≤◌, List, [], ◌∷◌, refl, sym, ap, ◌∙◌, subst, arith}
-use Rattle.std.specs.Prelude.{Bool, true, false, Option, Some, None, is_some, MatchOption, MatchBool, Result, Err, IsErrOf}
+use Rattle.std.proofs.Common.{◌≡◌, ℕ, ◌<◌, List, [], ◌∷◌, refl, sym, subst, arith}
+use Rattle.std.specs.Prelude.{Bool, true, false, Option, Some, None, is_some, MatchOption, MatchBool, Err, IsErrOf}
 use Rattle.ofit_num.specs.declared.whole.WholeFault.{WholeFault}
 use Rattle.ofit_num.specs.declared.whole.WholeFault.TheVariants.{NotWhole, TooLarge}
 use Rattle.ofit_num.specs.NumberText.{IsWhole}

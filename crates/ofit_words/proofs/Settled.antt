@@ -1,12 +1,12 @@
 -- A word sets one key to one value.
-use Rattle.std.proofs.Common.{◌≡◌, ℕ, List, [], ◌∷◌, ◌++◌, refl, sym, ap, ◌∙◌, subst, append_assoc}
+use Rattle.std.proofs.Common.{◌≡◌, ℕ, List, [], ◌∷◌, ◌++◌, refl, sym, ap, ◌∙◌, append_assoc}
 use Rattle.std.proofs.Math.Dec.{eqb}
 use Rattle.std.proofs.lemmas.Bool.{eq-eqb}
 use Rattle.std.proofs.lemmas.List.{append_cancel_left}
-use Rattle.std.specs.Prelude.{Bool, true, false, codes, Option, Some, None, MatchOption}
+use Rattle.std.specs.Prelude.{true, false, codes, Option, Some, None, MatchOption}
 use Rattle.ofit_words.specs.declared.key.Key.{Key}
 use Rattle.ofit_words.specs.declared.key.Key.TheVariants.{Order, Loss, Places, Lo, Hi, Seed, Groups, Rows, Shape}
-use Rattle.ofit_words.specs.Commands.{key_name, Sets}
+use Rattle.ofit_words.specs.Commands.{key_name}
 
 pub not_true : false ≡ true → ⊥
 not_true e = cc
@@ -20,7 +20,7 @@ head_of b c bs cs e = cc
 tail_of : (b c : ℕ) (bs cs : List ℕ) → b ∷ bs ≡ c ∷ cs → bs ≡ cs
 tail_of b c bs cs e = cc
 
-apart0 : (b c : ℕ) (bs cs : List ℕ) → eqb b c ≡ false → b ∷ bs ≡ c ∷ cs → ⊥
+pub apart0 : (b c : ℕ) (bs cs : List ℕ) → eqb b c ≡ false → b ∷ bs ≡ c ∷ cs → ⊥
 apart0 b c bs cs h e = not_false (sym (eq-eqb b c (head_of b c bs cs e)) ∙ h)
 
 apart1 : (a d b c : ℕ) (bs cs : List ℕ) → eqb b c ≡ false → a ∷ (b ∷ bs) ≡ d ∷ (c ∷ cs) → ⊥

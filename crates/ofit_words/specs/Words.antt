@@ -1,5 +1,5 @@
 -- What the words of a call are read as: a job, or the first fault.
-use Rattle.std.specs.Prelude.{◌≡◌, ℕ, ◌+◌, ◌≤◌, ◌<◌, List, [], ◌∷◌, ◌++◌, length, Option, Some, None, Result, Ok, Err, ℤ, ◌<ℤ◌, ⊤}
+use Rattle.std.specs.Prelude.{◌≡◌, ℕ, ◌+◌, ◌≤◌, ◌<◌, List, [], ◌∷◌, ◌++◌, length, Option, Some, None, Result, Ok, Err, ℤ, ◌<ℤ◌}
 use Rattle.ofit_study.specs.declared.settings.LossKind.TheVariants.{Squares}
 use Rattle.ofit_study.specs.declared.settings.Settings.{Settings}
 use Rattle.ofit_study.specs.declared.pattern.Pattern.TheVariants as pattern
@@ -83,7 +83,7 @@ IsJob command names words (Levels k) = (command ≡ commands.Levels) × IsLevel 
 IsJob command names words (Sample job) = (command ≡ commands.Sample) × SampleOf words job
 
 -- The job, or the first fault: no command, an unknown one, a name that is missing, a level out of range; then the
--- faults of the settings by rising place; then bounds that cross. Memory may run out in place of each.
+-- faults of the settings by rising place; then bounds that cross. Want of memory is no reading.
 abbrev pub WordsRead : List (List ℕ) → Result Job WordFault → Type 0
 WordsRead words (Ok job) = (command : Command) × (names : List (List ℕ)) × (settings : List (List ℕ)) × AllFine words command names settings × IsJob command names settings job
 WordsRead words (Err NoCommand) = words ≡ []
@@ -94,7 +94,7 @@ WordsRead words (Err (UnknownSetting place)) = (command : Command) × (places : 
 WordsRead words (Err (RepeatedSetting place)) = (command : Command) × (places : ℕ) × (groups : ℕ) × (before : List (List ℕ)) × (word : List ℕ) × FirstAt words place command places groups before word × IsRepeated command before word
 WordsRead words (Err (BadSetting place)) = (command : Command) × (places : ℕ) × (groups : ℕ) × (before : List (List ℕ)) × (word : List ℕ) × FirstAt words place command places groups before word × IsBad command places groups before word
 WordsRead words (Err BoundsCross) = (command : Command) × (names : List (List ℕ)) × (words' : List (List ℕ)) × (settings : Settings) × AllFine words command names words' × SettingsOf words' settings × Cross settings.lo settings.hi
-WordsRead words (Err Memory) = ⊤
+WordsRead words (Err Memory) = ⊥
 
 -- a job that each call which takes one may be given
 abbrev pub IsJobInLimits : Job → Type 0

@@ -64,7 +64,7 @@ pub enum Job {
     Unimodal(Text, u32),
     /// Verify the peaked sheet of the second name, of the table of the first, at these decimal places.
     VerifyUnimodal(Text, Text, u32),
-    /// Print the level table for so many places, from 1 to 34.
+    /// Print the level table for so many groups of equal weight, from 1 to 34.
     Levels(u32),
     /// Make a study and print its summary.
     Sample(SampleJob),

@@ -8,6 +8,7 @@ mod fault;
 mod given;
 mod job;
 mod key;
+mod laws;
 mod read;
 mod text;
 mod value;
@@ -16,6 +17,7 @@ pub use command::Command;
 pub use fault::WordFault;
 pub use job::{Inputs, Job, Kind, OrderChoice, SampleJob};
 pub use key::Key;
+pub use laws::words_have_one_reading;
 pub use read::read_words;
 pub use text::Text;
 

@@ -1,4 +1,4 @@
-ghost use Rattle.std.specs.Prelude.{◌≡◌, ◌≤◌, ◌∷◌, ℕ, map, string_bytes, length, IfOk, MatchBool};
+ghost use Rattle.std.specs.Prelude.{◌≡◌, ◌≤◌, ◌∷◌, ℕ, map, string_bytes, length, IfOk, IsErrOf, MatchBool, ◌⊎◌};
 ghost use Rattle.ofit_study.specs.Settings.{InOrder, IsBoundInLimits};
 ghost use Rattle.ofit_words.specs.declared.command.Command.TheVariants.{Levels};
 ghost use Rattle.ofit_words.specs.Commands.{name_count, command_name};
@@ -138,9 +138,10 @@ fn job_of(
 /// What the words of a call ask for, without the program's name: word 0 is the command, then come its
 /// names, and then its settings `key=value`. The first fault of the words, in the order of
 /// [`WordFault`]'s variants; those of the settings by rising place. [`WordFault::Memory`] may come in
-/// place of each. Time linear in the words, of which at most ten settings are looked at.
+/// place of each. Time linear in the words, of which at most ten settings are judged: a key stands once,
+/// and the first fault ends it.
 pub fn read_words(alloc: Global, words: &[String]) -> Result<Job, WordFault>
-    ensures read { WordsRead (map string_bytes words.now) result }
+    ensures read { IsErrOf result WordFault.Memory ⊎ WordsRead (map string_bytes words.now) result }
     ensures limits { IfOk result IsJobInLimits }
 {
     match words.split_first() {
@@ -154,7 +155,7 @@ pub fn read_words(alloc: Global, words: &[String]) -> Result<Job, WordFault>
 
 /// What the words behind a command ask for.
 fn read_call(alloc: Global, command: Command, words: &[String]) -> Result<Job, WordFault>
-    ensures read { WordsRead (command_name command ∷ map string_bytes words.now) result }
+    ensures read { IsErrOf result WordFault.Memory ⊎ WordsRead (command_name command ∷ map string_bytes words.now) result }
     ensures limits { IfOk result IsJobInLimits }
 {
     let count = names_of(command);

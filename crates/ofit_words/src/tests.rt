@@ -1,4 +1,4 @@
-use crate::{Job, Kind, OrderChoice, WordFault, read_words};
+use crate::{Job, Kind, OrderChoice, SampleJob, WordFault, read_words, words_have_one_reading};
 use ofit_study::{LossKind, Pattern};
 use std::alloc::Global;
 use std::test::Fail;
@@ -15,6 +15,25 @@ fn words_of(alloc: Global, line: &str) -> Result<Vec<String>, Fail> {
 fn fault_of(alloc: Global, line: &str) -> Result<Option<WordFault>, Fail> {
     let words = words_of(alloc, line)?;
     Ok(read_words(alloc, words.as_slice()).err())
+}
+
+/// The order of a fit whose word for it is this.
+fn order_of(alloc: Global, word: &str) -> Result<Option<OrderChoice>, Fail> {
+    let mut words = words_of(alloc, "fit d")?;
+    words.push(String::from_str(alloc, word)?)?;
+    match read_words(alloc, words.as_slice()) {
+        Ok(Job::Fit(inputs)) => Ok(Some(inputs.order)),
+        _ => Ok(None),
+    }
+}
+
+/// What a sample of this line is made from.
+fn sample_of(alloc: Global, line: &str) -> Result<Option<SampleJob>, Fail> {
+    let words = words_of(alloc, line)?;
+    match read_words(alloc, words.as_slice()) {
+        Ok(Job::Sample(job)) => Ok(Some(job)),
+        _ => Ok(None),
+    }
 }
 
 #[test]
@@ -165,20 +184,134 @@ fn the_other_jobs_are_read(rt: HostRuntime) -> Result<(), Fail> {
             Ok(Job::Unimodal(_, 0))
         )
     );
-    let words = words_of(rt.alloc(), "sample seed=7 groups=3 rows=4 shape=chain")?;
-    match read_words(rt.alloc(), words.as_slice()) {
-        Ok(Job::Sample(job)) => {
-            assert_eq!(rt; (job.seed, job.groups, job.rows), (7, 3, 4));
-            assert_eq!(rt; job.kind, Kind::Chain);
-            assert_eq!(rt; job.loss, LossKind::Squares);
+    Ok(())
+}
+
+#[test]
+fn samples_have_their_settings(rt: HostRuntime) -> Result<(), Fail> {
+    let alloc = rt.alloc();
+    let plain = SampleJob {
+        seed: 1,
+        groups: 100,
+        rows: 100,
+        kind: Kind::General,
+        loss: LossKind::Squares,
+    };
+    let small = SampleJob {
+        seed: 7,
+        groups: 3,
+        rows: 4,
+        kind: Kind::Chain,
+        ..plain
+    };
+    let many = SampleJob {
+        groups: 7,
+        rows: 7,
+        loss: LossKind::Median,
+        ..plain
+    };
+    let cases: [(&str, SampleJob); 7] = [
+        ("sample", plain),
+        ("sample seed=7 groups=3 rows=4 shape=chain", small),
+        ("sample loss=median groups=7", many),
+        ("sample shape=general", plain),
+        (
+            "sample shape=chain",
+            SampleJob {
+                kind: Kind::Chain,
+                ..plain
+            },
+        ),
+        (
+            "sample shape=umbrella",
+            SampleJob {
+                kind: Kind::Umbrella,
+                ..plain
+            },
+        ),
+        (
+            "sample shape=tree",
+            SampleJob {
+                kind: Kind::Tree,
+                ..plain
+            },
+        ),
+    ];
+    for (line, job) in cases {
+        assert_eq!(rt; sample_of(alloc, line)?, Some(job));
+    }
+    words_have_one_reading();
+    Ok(())
+}
+
+#[test]
+fn orders_are_read(rt: HostRuntime) -> Result<(), Fail> {
+    let alloc = rt.alloc();
+    assert!(rt;
+        matches!(
+            order_of(alloc, "order=none")?,
+            Some(OrderChoice::Shaped(Pattern::NoPairs))
+        )
+    );
+    assert!(rt;
+        matches!(
+            order_of(alloc, "order=chain")?,
+            Some(OrderChoice::Shaped(Pattern::Chain))
+        )
+    );
+    match order_of(alloc, "order=umbrella:low dose")? {
+        Some(OrderChoice::Shaped(Pattern::Umbrella(peak))) => {
+            assert_eq!(rt; peak.bytes(), b"low dose".as_slice());
         }
         _ => panic!(rt),
     }
-    let words = words_of(rt.alloc(), "sample groups=7")?;
+    match order_of(alloc, "order=file:a=b")? {
+        Some(OrderChoice::File(file)) => assert_eq!(rt; file.as_str(), "a=b"),
+        _ => panic!(rt),
+    }
+    Ok(())
+}
+
+#[test]
+fn reports_and_sessions_are_read(rt: HostRuntime) -> Result<(), Fail> {
+    let words = words_of(rt.alloc(), "report d=1 lo=0.001 order=file:pairs")?;
     match read_words(rt.alloc(), words.as_slice()) {
-        Ok(Job::Sample(job)) => {
-            assert_eq!(rt; (job.seed, job.groups, job.rows), (1, 7, 7));
-            assert_eq!(rt; job.kind, Kind::General);
+        Ok(Job::Report(inputs)) => {
+            assert_eq!(rt; inputs.table.as_str(), "d=1");
+            assert_eq!(rt; inputs.settings.lo, Some(1));
+            assert_eq!(rt; inputs.settings.hi, None);
+        }
+        _ => panic!(rt),
+    }
+    let words = words_of(rt.alloc(), "session d s hi=1e6 places=0 order=none")?;
+    match read_words(rt.alloc(), words.as_slice()) {
+        Ok(Job::Session(inputs, script)) => {
+            assert_eq!(rt; inputs.table.as_str(), "d");
+            assert_eq!(rt; script.as_str(), "s");
+            assert_eq!(rt; inputs.settings.hi, Some(1_000_000));
+            assert!(rt; matches!(inputs.order, OrderChoice::Shaped(Pattern::NoPairs)));
+        }
+        _ => panic!(rt),
+    }
+    Ok(())
+}
+
+#[test]
+fn peaks_are_read(rt: HostRuntime) -> Result<(), Fail> {
+    let words = words_of(rt.alloc(), "unimodal d")?;
+    match read_words(rt.alloc(), words.as_slice()) {
+        Ok(Job::Unimodal(table, places)) => {
+            assert_eq!(rt; table.as_str(), "d");
+            assert_eq!(rt; places, 3);
+        }
+        _ => panic!(rt),
+    }
+    let words = words_of(rt.alloc(), "verify-unimodal d s places=2")?;
+    match read_words(rt.alloc(), words.as_slice()) {
+        Ok(Job::VerifyUnimodal(table, sheet, places)) => {
+            assert_eq!(rt; table.as_str(), "d");
+            assert_eq!(rt; sheet.as_str(), "s");
+            assert_eq!(rt; places, 2);
         }
         _ => panic!(rt),
     }

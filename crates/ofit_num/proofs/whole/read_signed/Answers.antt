@@ -1,17 +1,13 @@
-use Rattle.std.proofs.Common.{◌≡◌, ◌∙◌, ap, ◌∷◌, ℕ}
-use Rattle.ofit_num.specs.declared.whole.WholeFault.TheVariants.{NotWhole, TooLarge}
-use Rattle.ofit_num.proofs.Spelled.{IsSigned-minus, IsSigned-minus_large, IsSigned-plain_large, same_fault}
+use Rattle.std.proofs.Common.{ℕ, List, sym, subst, arith}
+use Rattle.ofit_num.specs.NumberText.{IsSigned}
+use Rattle.ofit_num.proofs.Numerals.{IsSigned-decimal}
+use Rattle.ofit_num.proofs.ReadBack.{signed_read}
 use Rattle.ofit_num.proofs.whole.read_signed.Goals as goal
 
-pub returns-in-Err-clause-not_whole : goal.returns-in-Err-clause-not_whole
-returns-in-Err-clause-not_whole c = λ e.
-    let text : c.args.text.now ≡ 45 ∷ c.in-Some.rest.now = c.in-Some.ensures.cases.0 ∙ ap (λ (b : ℕ). b ∷ c.in-Some.rest.now) c.if-first-eq45.true in
-    IsSigned-minus _ _ text (c.in-Err.ensures.not_whole (same_fault c.in-Err.fault NotWhole e))
+pub returns-clause-reads : goal.returns-clause-reads
+returns-clause-reads c = signed_read c.args.text.now c.args.limit c.signed_of.result c.signed_of.ensures.ok c.signed_of.ensures.not_whole c.signed_of.ensures.too_large
 
-pub returns-in-Err-clause-too_large : goal.returns-in-Err-clause-too_large
-returns-in-Err-clause-too_large c = λ e.
-    let text : c.args.text.now ≡ 45 ∷ c.in-Some.rest.now = c.in-Some.ensures.cases.0 ∙ ap (λ (b : ℕ). b ∷ c.in-Some.rest.now) c.if-first-eq45.true in
-    IsSigned-minus_large _ _ c.args.limit text (c.in-Err.ensures.too_large (same_fault c.in-Err.fault TooLarge e))
-
-pub returns-in-Err-read_whole-clause-too_large : goal.returns-in-Err-read_whole-clause-too_large
-returns-in-Err-read_whole-clause-too_large c = λ e. IsSigned-plain_large c.args.text.now c.args.limit (c.in-Err-read_whole.ensures.too_large (same_fault c.in-Err-read_whole.fault TooLarge e))
+pub returns-clause-reads_back : goal.returns-clause-reads_back
+returns-clause-reads_back c = λ z e h.
+    let P : List ℕ → Type 0 = λ t. IsSigned t z in
+    returns-clause-reads c z (subst P (sym e) (IsSigned-decimal z (omega (arith, h, c.requires)))) h

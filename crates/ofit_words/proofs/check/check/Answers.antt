@@ -1,6 +1,5 @@
-use Rattle.std.proofs.Common.{◌≡◌, ◌≤◌, ◌+◌, ℕ, List, [], ◌∷◌, ◌++◌, map, take, drop, length, ap, sym, ◌∙◌, refl, arith}
+use Rattle.std.proofs.Common.{◌≡◌, ◌≤◌, ◌+◌, [], map, take, drop, length, ap, arith}
 use Rattle.std.specs.Prelude.{string_bytes}
-use Rattle.ofit_words.specs.Commands.{name_count}
 use Rattle.ofit_words.proofs.Found.{unless, judged_moved, fine_moved, fine_more, fine_along}
 use Rattle.ofit_words.proofs.Nine.{at_most_nine, two_at_most}
 use Rattle.ofit_words.proofs.Lists.{map_split, map_so_far, length_so_far}

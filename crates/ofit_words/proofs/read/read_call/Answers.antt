@@ -1,4 +1,4 @@
-use Rattle.std.proofs.Common.{◌≡◌, ℕ, List, ◌∷◌, ◌++◌, map, length, ap, ◌∙◌}
+use Rattle.std.proofs.Common.{ℕ, List, ◌∷◌, map, ap, ◌∙◌, inr}
 use Rattle.std.proofs.lemmas.List.{map-append, length-map}
 use Rattle.std.specs.Prelude.{string_bytes}
 use Rattle.ofit_words.specs.Commands.{command_name}
@@ -8,8 +8,8 @@ use Rattle.ofit_words.proofs.read.read_call.Goals as goal
 
 pub returns-then-not-level_is_good-clause-read : goal.returns-then-not-level_is_good-clause-read
 returns-then-not-level_is_good-clause-read c =
-    no_level_of_words _ c.args.command (map string_bytes c.split_at.result.0.now) (map string_bytes c.split_at.result.1.now)
-    (ap (λ (t : List (List ℕ)). command_name c.args.command ∷ t) (ap (map string_bytes) c.split_at.ensures.by_index.0 ∙ map-append string_bytes c.split_at.result.0.now c.split_at.result.1.now)) c.if-not-level_is_good.ensures
+    inr (no_level_of_words _ c.args.command (map string_bytes c.split_at.result.0.now) (map string_bytes c.split_at.result.1.now)
+    (ap (λ (t : List (List ℕ)). command_name c.args.command ∷ t) (ap (map string_bytes) c.split_at.ensures.by_index.0 ∙ map-append string_bytes c.split_at.result.0.now c.split_at.result.1.now)) c.if-not-level_is_good.ensures)
 
 pub returns-in-Ok-clause-read : goal.returns-in-Ok-clause-read
 returns-in-Ok-clause-read c =

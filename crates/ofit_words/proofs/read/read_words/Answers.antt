@@ -1,9 +1,9 @@
-use Rattle.std.proofs.Common.{◌≡◌, ℕ, List, map, ap, ◌∙◌}
+use Rattle.std.proofs.Common.{map, ap, ◌∙◌, inr}
 use Rattle.std.specs.Prelude.{string_bytes}
 use Rattle.ofit_words.proofs.read.read_words.Goals as goal
 
 pub returns-in-None-command_of-clause-read : goal.returns-in-None-command_of-clause-read
-returns-in-None-command_of-clause-read c = (
+returns-in-None-command_of-clause-read c = inr (
   string_bytes c.in-Some.first.now,
   map string_bytes c.in-Some.rest.now,
   ap (map string_bytes) c.in-Some.ensures.cases.0,

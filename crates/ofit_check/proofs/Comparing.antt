@@ -1,0 +1,31 @@
+-- What comparisons of whole numbers tell.
+use Rattle.std.proofs.Common.{◌≡◌, ℕ, ◌<◌, refl, arith, Ordering}
+use Rattle.std.specs.declared.cmp.Ordering.TheVariants.{Less, Equal, Greater}
+use Rattle.std.proofs.lemmas.Int.{ints}
+use Rattle.std.proofs.lemmas.Cmp.{ranked, int_ranked}
+use Rattle.std.specs.Ordering.{nat_cmp, int_cmp, is_le, is_eq, is_lt, MatchOrdering}
+use Rattle.std.specs.Prelude.{ℤ, ◌≤ℤ◌, ◌<ℤ◌, ◌↔◌, IsTrue}
+
+at_most_by : (x y : ℤ) (o : Ordering) → MatchOrdering o (x <ℤ y) (x ≡ y) (y <ℤ x) → IsTrue (is_le o) ↔ (x ≤ℤ y)
+at_most_by x y Less h = (λ t. omega (arith, ints, h), λ t. refl)
+at_most_by x y Equal h = (λ t. omega (arith, ints, h), λ t. refl)
+at_most_by x y Greater h = (λ t. cc, λ t. absurd (omega (arith, ints, h, t)))
+
+pub at_most_told : (x y : ℤ) (o : Ordering) → o ≡ int_cmp x y → IsTrue (is_le o) ↔ (x ≤ℤ y)
+at_most_told x y o e = at_most_by x y o (int_ranked x y o e)
+
+equal_by : (x y : ℤ) (o : Ordering) → MatchOrdering o (x <ℤ y) (x ≡ y) (y <ℤ x) → IsTrue (is_eq o) ↔ (x ≡ y)
+equal_by x y Less h = (λ t. cc, λ t. absurd (omega (arith, ints, h, t)))
+equal_by x y Equal h = (λ t. h, λ t. refl)
+equal_by x y Greater h = (λ t. cc, λ t. absurd (omega (arith, ints, h, t)))
+
+pub equal_told : (x y : ℤ) (o : Ordering) → o ≡ int_cmp x y → IsTrue (is_eq o) ↔ (x ≡ y)
+equal_told x y o e = equal_by x y o (int_ranked x y o e)
+
+less_by : (i j : ℕ) (o : Ordering) → MatchOrdering o (i < j) (i ≡ j) (j < i) → IsTrue (is_lt o) ↔ (i < j)
+less_by i j Less h = (λ t. h, λ t. refl)
+less_by i j Equal h = (λ t. cc, λ t. absurd (omega (arith, h, t)))
+less_by i j Greater h = (λ t. cc, λ t. absurd (omega (arith, h, t)))
+
+pub less_told : (i j : ℕ) (o : Ordering) → o ≡ nat_cmp i j → IsTrue (is_lt o) ↔ (i < j)
+less_told i j o e = less_by i j o (ranked i j o e)

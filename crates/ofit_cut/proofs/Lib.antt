@@ -1,0 +1,15 @@
+pub mod Sums
+pub mod Capacity
+pub mod Crossings
+pub mod Rest
+pub mod Sizes
+pub mod Hoffman
+pub mod Agree
+pub mod Picard
+pub mod Duality
+pub mod Nodes
+pub mod Slacks
+pub mod Adding
+pub mod Settled
+pub mod Turned
+pub mod Choices

@@ -1,0 +1,10 @@
+pub mod Sets
+pub mod Greatest
+pub mod Span
+pub mod Balance
+pub mod Members
+pub mod Barrier
+pub mod Balanced
+pub mod Edges
+pub mod Slack
+pub mod Open

@@ -1,0 +1,116 @@
+-- What a study that can be fitted tells of its problem.
+use Rattle.std.proofs.Common.{◌≡◌, ℕ, zero, suc, ◌+◌, ◌<◌, ◌≤◌, refl, sym, ap, ap₂, subst, ◌∙◌, arith, List, [], ◌∷◌, length, slice_index, get_or, add-one, ◌↔◌, cond, nat_lt, Bool, false}
+use Rattle.std.proofs.lemmas.Bool.Decides.{nat_tests}
+use Rattle.std.proofs.lemmas.List.Sums.{sum_by-cons}
+use Rattle.std.proofs.lemmas.List.{length-map}
+use Rattle.std.proofs.lemmas.List.Elements.{Contains-get_or, All-contains, All-head, All-tail}
+use Rattle.std.proofs.lemmas.List.Kept.{AllPairs-from_increasing}
+use Rattle.std.specs.Prelude.{All, Option, None, ℤ, sum_by, count_by, Result, IfOk, Vec}
+use Rattle.std.specs.Global.{Global}
+use Rattle.std.proofs.lemmas.Result.{IfOk-weaker}
+use Rattle.ofit_num.specs.declared.frac.Frac.{Frac}
+use Rattle.ofit_num.specs.Fit.{LeastBestValues}
+use Rattle.std.specs.List.{Contains}
+use Rattle.std.specs.List.Sorted.{IsStrictlyIncreasing}
+use Rattle.ofit_num.specs.declared.row.Row.{Row}
+use Rattle.ofit_num.specs.Problem.{Problem, Bounds, no_bounds}
+use Rattle.ofit_num.specs.Meaning.{Meaning}
+use Rattle.ofit_num.specs.Law.{HasScaling}
+use Rattle.ofit_num.specs.Limits.{all_rows}
+use Rattle.ofit_order.specs.Relation.{Relation}
+use Rattle.ofit_order.specs.Connection.{LeadsUp, Joins}
+use Rattle.ofit_order.specs.Component.{HasComponent, IsComponentOf, AreMembers}
+use Rattle.ofit_order.proofs.Walks.{IsReached-refl}
+use Rattle.ofit_order.proofs.Increasing.{increasing_same}
+use Rattle.ofit_order.proofs.Forming.{member_inside}
+use Rattle.ofit_loss.specs.Laws.{HasLossLaws}
+use Rattle.ofit_loss.specs.Rows.{AreFittable, special_count}
+use Rattle.ofit_loss.proofs.ProblemLaws.{groups_fittable, problem_scaling}
+use Rattle.ofit_study.specs.Study.{Study, IsValid, names_of, rows_named, groups_of, places_of, bounds_of, problem_stated, most_rows}
+use Rattle.ofit_study.proofs.Stating.{rows_within, numbers_within, groups_filled}
+use Rattle.ofit_fit.specs.Part.{part_of, IsOrderOf}
+use Rattle.ofit_fit.specs.Piece.{IsFittable, ArePlaces}
+use Rattle.ofit_fit.proofs.Closed.{IsClosed, distinct_from_increasing}
+
+module _ (s : Study) (order : Relation) (fit : IsFittable s order) where
+  pub free : (g : ℕ) → (problem_stated s).bounds g ≡ no_bounds g
+  free g = ap₂ (λ (l h : Option ℤ). bounds l h) fit.unbounded.lo fit.unbounded.hi where
+    bounds : Option ℤ → Option ℤ → Bounds
+    bounds l h = record { lo = l; hi = h }
+
+  pub scaling : (m : Meaning) (strict : _) → HasLossLaws m strict → HasScaling m (problem_stated s)
+  scaling m strict laws = problem_scaling m strict laws (problem_stated s) (groups_fittable (groups_of s) (places_of s) (bounds_of s.settings) fit.fittable)
+
+  pub places_closed : (members : List ℕ) → ArePlaces s order members → IsClosed (problem_stated s) members
+  places_closed members are = record {
+    distinct = distinct_from_increasing members are.rising;
+    inside = λ p h. All-contains (λ g. g < length (groups_of s)) members p are.inside h;
+    up = λ a b h c. (are.closed a b ((fit.of.pairs (a, b)).1 h)).0 c;
+    down = λ a b h c. (are.closed a b ((fit.of.pairs (a, b)).1 h)).1 c;
+  }
+
+-- no row of a valid study has one of the numbers that are kept for rows that are no observations
+none_special : (rows : List Row) → All (λ r. r.number ≤ most_rows) rows → special_count rows ≡ 0
+none_special [] h = refl
+none_special (r ∷ rows) h =
+    let low : nat_lt 4294967293 r.number ≡ false = lower r.number (All-head (λ (r : Row). r.number ≤ most_rows) r rows h) in
+    let none : ◌≡◌ {A = ℕ} (cond (nat_lt 4294967293 r.number) 1 0) 0 = ap (λ (b : Bool). cond b 1 0) low in
+    omega (arith, none, sum_by-cons (λ (r : Row). cond (nat_lt 4294967293 r.number) 1 0) r rows, none_special rows (All-tail (λ (r : Row). r.number ≤ most_rows) r rows h))
+  where
+    lower : (n : ℕ) → n ≤ 100000 → nat_lt 4294967293 n ≡ false
+    lower n l = grind (arith, nat_tests)
+
+pub all_fittable : (s : Study) → IsValid s → AreFittable (all_rows (groups_of s))
+all_fittable s v = record { limits = rows_within s v; special = omega (arith, none_special (all_rows (groups_of s)) (numbers_within s v)) }
+
+-- each of the numbers that rise is at least its index
+at_least : (members : List ℕ) → IsStrictlyIncreasing members → (k : ℕ) → k < length members → k ≤ slice_index members k
+at_least members up zero l = omega arith
+at_least members up (suc k) l =
+    let step : suc k ≡ k + 1 = omega arith in
+    omega (arith, at_least members up k (omega arith), up k (omega arith), ap (slice_index members) step)
+
+-- members that rise and lie below n are at most n
+pub few_members : (members : List ℕ) (n : ℕ) → IsStrictlyIncreasing members → All (λ g. g < n) members → length members ≤ n
+few_members members n up inside = go (length members) refl where
+  go : (k : ℕ) → length members ≡ k → k ≤ n
+  go zero e = omega arith
+  go (suc k) e = omega (arith, at_least members up k (omega (arith, e)), inside k 0 (omega (arith, e)))
+
+-- the members of a component of a valid study's order
+pub members_places : (s : Study) (order : Relation) → IsValid s → IsOrderOf order (problem_stated s) → (component : ℕ) (members : List ℕ) → HasComponent order component → AreMembers order component members
+    → ((a b : ℕ) → LeadsUp order.pairs a b → Contains members a ↔ Contains members b) → ArePlaces s order members
+members_places s order valid of component members has are closed =
+    let inside : All (λ g. g < length (groups_of s)) members = λ k d l. omega (arith, of.places, member_inside order component members are _ (Contains-get_or members k d l)) in
+    let named : length (groups_of s) ≡ length (names_of s) = length-map (names_of s) (rows_named s.rows) in
+    record {
+      rising = are.rising;
+      inside = inside;
+      closed = closed;
+      some = omega (arith, first.1);
+      few = omega (arith, few_members members (length (groups_of s)) are.rising inside, named, valid.groups);
+    }
+  where
+    lies : IsComponentOf order component (slice_index has.1.0 component)
+    lies = (
+      has.1.0,
+      has.1.1,
+      record {
+        counted = omega (arith, has.2, has.1.2);
+        inside = ((has.1.1.exact (slice_index has.1.0 component)).0 (Contains-get_or has.1.0 component 0 (omega (arith, has.2, has.1.2)))).inside;
+        connected = IsReached-refl (Joins order.pairs) (slice_index has.1.0 component);
+      },
+    )
+
+    first : Contains members (slice_index has.1.0 component)
+    first = (are.exact (slice_index has.1.0 component)).1 lies
+
+-- a component has one list of members
+pub same_members : (order : Relation) (component : ℕ) (xs ys : List ℕ) → AreMembers order component xs → AreMembers order component ys → xs ≡ ys
+same_members order component xs ys x y = increasing_same xs ys x.rising y.rising (λ p h. (y.exact p).1 ((x.exact p).0 h)) (λ p h. (x.exact p).1 ((y.exact p).0 h))
+
+-- what holds for the component's list of members holds for each such list
+pub for_members : {E : Type 0} (r : Result (Vec Frac Global) E) (m : Meaning) (s : Problem) (order : Relation) (component : ℕ) (members : List ℕ) → AreMembers order component members → IfOk r (λ values. LeastBestValues m (part_of s members) values.items)
+    → IfOk r (λ values. (list : List ℕ) → AreMembers order component list → LeastBestValues m (part_of s list) values.items)
+for_members r m s order component members are low = IfOk-weaker r _ _
+    (λ (values : Vec Frac Global) (h : LeastBestValues m (part_of s members) values.items) list x. subst (λ (ms : List ℕ). LeastBestValues m (part_of s ms) values.items) (same_members order component members list are x) h) low

@@ -1,0 +1,7 @@
+pub mod Part
+pub mod Compose
+pub mod Links
+pub mod Put
+pub mod Piece
+pub mod Counted
+pub mod Direct

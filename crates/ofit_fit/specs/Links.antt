@@ -1,0 +1,33 @@
+-- For each member of a component the position of the member that a pair leads to.
+use Rattle.std.specs.Prelude.{◌≡◌, ℕ, ◌<◌, ◌⊎◌, List, [], ◌∷◌, length, slice_index, slice_index_or, Option, Some, None, MatchOption, IfSome}
+use Rattle.std.specs.List.{Contains}
+
+-- a step from the place leads to the member at the link's position, or none leads on
+abbrev pub IsLink : (ℕ → ℕ → Type 0) → List ℕ → ℕ → Option ℕ → Type 0
+IsLink Step members place link = MatchOption link ((b : ℕ) → Step place b → ⊥) (λ j. (j < length members) × Step place (slice_index members j))
+
+abbrev pub link_at : List (Option ℕ) → ℕ → Option ℕ
+link_at links i = slice_index_or links i None
+
+-- the link is below n, where there is one
+abbrev pub IsLinkWithin : ℕ → Option ℕ → Type 0
+IsLinkWithin n link = IfSome link (λ j. j < n)
+
+-- one link for each member
+pub record AreLinks (Step : ℕ → ℕ → Type 0) (members : List ℕ) (links : List (Option ℕ)) : Type 0 where
+  pub count : length links ≡ length members
+  pub each : (i : ℕ) → i < length members → IsLink Step members (slice_index members i) (link_at links i)
+
+-- one of the pairs leads up to the place
+abbrev pub HasPairTo : List (ℕ × ℕ) → ℕ → Type 0
+HasPairTo pairs place = (a : ℕ) × Contains pairs (a, place)
+
+-- the members that the pairs lead up to are linked to the position now, and the others as before
+pub record AreLinkedBack (members : List ℕ) (above : List (ℕ × ℕ)) (position : ℕ) (before after : List (Option ℕ)) : Type 0 where
+  pub count : length after ≡ length before
+  pub each : (j : ℕ) → j < length members → (HasPairTo above (slice_index members j) × (link_at after j ≡ Some position)) ⊎ ((HasPairTo above (slice_index members j) → ⊥) × (link_at after j ≡ link_at before j))
+
+-- the path starts where `next` says, each link leads to its next position, and the last position has none
+abbrev pub IsPathFrom : List (Option ℕ) → Option ℕ → List ℕ → Type 0
+IsPathFrom links next [] = next ≡ None
+IsPathFrom links next (p ∷ path) = (next ≡ Some p) × IsPathFrom links (link_at links p) path

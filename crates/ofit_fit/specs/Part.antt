@@ -1,0 +1,38 @@
+-- The part of a problem that some of its places make up, as the members of a component do.
+use Rattle.std.specs.Prelude.{◌≡◌, ◌==◌, ℕ, ◌↔◌, List, length, map, slice_index, slice_get, unwrap_or, pos}
+use Rattle.std.specs.List.{Contains, position_or_len}
+use Rattle.ofit_num.specs.Problem.{Problem}
+use Rattle.ofit_num.specs.Fraction.{Fraction}
+use Rattle.ofit_order.specs.Relation.{Relation, AreInOrder}
+use Rattle.ofit_order.specs.Form.{pairs_among}
+
+-- where the place stands among the members
+abbrev pub position_among : List ℕ → ℕ → ℕ
+position_among members g = position_or_len (λ m. m == g) members
+
+-- the pairs among the members, each place by its position
+abbrev pub pairs_by_position : List (ℕ × ℕ) → List ℕ → List (ℕ × ℕ)
+pairs_by_position pairs members = map (λ e. (position_among members e.0, position_among members e.1)) (pairs_among pairs members)
+
+-- the members with their rows, pairs and bounds, in the members' order
+abbrev pub part_of : Problem → List ℕ → Problem
+part_of s members = record {
+  count = length members;
+  rows = λ i. s.rows (slice_index members i);
+  pairs = pairs_by_position s.pairs members;
+  bounds = λ i. s.bounds (slice_index members i);
+}
+
+-- the value of a place, 0 where there is none
+abbrev pub value_at : List Fraction → ℕ → Fraction
+value_at values g = unwrap_or (slice_get values g) (record { num = pos 0; den = 1 })
+
+-- the values of the members, in the members' order
+abbrev pub values_at : List Fraction → List ℕ → List Fraction
+values_at values members = map (value_at values) members
+
+-- the order is between the problem's places, by its pairs, each once and sorted
+pub record IsOrderOf (order : Relation) (s : Problem) : Type 0 where
+  pub places : order.places ≡ s.count
+  pub in_order : AreInOrder order.pairs
+  pub pairs : (e : ℕ × ℕ) → Contains order.pairs e ↔ Contains s.pairs e

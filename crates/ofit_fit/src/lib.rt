@@ -1,0 +1,20 @@
+//! The fit of a study: component by component, each by the form of its order.
+#![tactic(auto)]
+
+mod chain;
+mod component;
+mod forms;
+mod laws;
+mod links;
+mod members;
+mod study;
+mod tree;
+mod values;
+
+pub use component::fit_component;
+pub use forms::has_pooled_forms;
+pub use laws::fits_compose;
+pub use study::fit_study;
+
+#[cfg(test)]
+mod tests;

@@ -1,0 +1,67 @@
+ghost use Rattle.std.specs.Prelude.{◌≡◌, ◌+◌, ◌≤◌, ◌^◌, ℕ, IfOk, OnOk, OnErr, length, vec_len};
+ghost use Rattle.ofit_num.specs.Fit.{LeastBestValues};
+ghost use Rattle.ofit_study.specs.Study.{groups_of, problem_stated, meaning_of};
+ghost use Rattle.ofit_fit.specs.Part.{IsOrderOf};
+ghost use Rattle.ofit_fit.specs.Piece.{IsUnbounded, HasPooledForms};
+ghost use Rattle.ofit_fit.specs.Counted.{HasComponentCount};
+
+use crate::component::fit_component;
+use crate::values::put_values;
+use ofit_num::{Frac, Tally};
+use ofit_order::Order;
+use ofit_study::Study;
+use std::alloc::{AllocError, Global};
+
+/// A list of zeros.
+fn zeros(alloc: Global, count: u32) -> Result<Vec<Frac>, AllocError>
+    ensures { IfOk result (λ values. vec_len values ≡ count) }
+{
+    let Some(zero) = Frac::make(0, 1) else {
+        unreachable!();
+    };
+    vec![in alloc; zero; count as usize]
+}
+
+/// The values of all components, each put at its groups' places.
+fn fit_components(
+    alloc: Global,
+    study: &Study,
+    order: &Order,
+    mut fitted: Vec<Frac>,
+    tally: &mut Tally,
+) -> Result<Vec<Frac>, AllocError>
+    requires order { IsOrderOf order.now (problem_stated study.now) }
+    requires as_long { vec_len fitted ≡ length (groups_of study.now) }
+    requires forms { HasPooledForms study.now }
+    requires unbounded { IsUnbounded study.now.settings }
+    requires room { tally.old.fits ≤ 2 ^ 63 }
+    ensures least_best { IfOk result (λ values. LeastBestValues (meaning_of study.now.settings.loss) (problem_stated study.now) values.items) }
+    ensures counted { OnOk result ((n : ℕ) × HasComponentCount (problem_stated study.now) n × (tally.new ≡ record tally.old { fits = tally.old.fits + n })) }
+    ensures limited { OnErr result ((n : ℕ) → HasComponentCount (problem_stated study.now) n → tally.new.fits ≤ tally.old.fits + n) }
+    ensures grown { tally.old.fits ≤ tally.new.fits }
+    ensures cuts { tally.new.cuts ≡ tally.old.cuts }
+{
+    let _groups = study.group_count();
+    for component in 0..order.component_count() {
+        let values = fit_component(alloc, study, order, component, tally)?;
+        put_values(&mut fitted, order.members(component), values.as_slice());
+    }
+    Ok(fitted)
+}
+
+/// The least-cost values of the study, one for each group in the groups' order, and of these the
+/// pointwise least. The tally counts each component that is fitted.
+pub fn fit_study(alloc: Global, study: &Study, tally: &mut Tally) -> Result<Vec<Frac>, AllocError>
+    requires forms { HasPooledForms study.now }
+    requires unbounded { IsUnbounded study.now.settings }
+    requires room { tally.old.fits ≤ 2 ^ 63 }
+    ensures least_best { IfOk result (λ values. LeastBestValues (meaning_of study.now.settings.loss) (problem_stated study.now) values.items) }
+    ensures counted { OnOk result ((n : ℕ) × HasComponentCount (problem_stated study.now) n × (tally.new ≡ record tally.old { fits = tally.old.fits + n })) }
+    ensures limited { OnErr result ((n : ℕ) → HasComponentCount (problem_stated study.now) n → tally.new.fits ≤ tally.old.fits + n) }
+    ensures grown { tally.old.fits ≤ tally.new.fits }
+    ensures cuts { tally.new.cuts ≡ tally.old.cuts }
+{
+    let order = study.order(alloc)?;
+    let values = zeros(alloc, study.group_count())?;
+    fit_components(alloc, study, &order, values, tally)
+}

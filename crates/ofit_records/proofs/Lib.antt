@@ -1,0 +1,5 @@
+pub mod Left
+pub mod FrontMarks
+pub mod Coming
+pub mod WrittenText
+pub mod FieldPlaces

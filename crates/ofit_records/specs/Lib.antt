@@ -1,0 +1,3 @@
+pub mod Records
+pub mod Coming
+pub mod Written

@@ -1,0 +1,13 @@
+pub mod Rising
+pub mod Keeping
+pub mod WrittenParts
+pub mod Numerals
+pub mod Readings
+pub mod Faults
+pub mod Places
+pub mod FourFields
+pub mod Telling
+pub mod ItemReadings
+pub mod Reached
+pub mod ReadBack
+pub mod OneReading

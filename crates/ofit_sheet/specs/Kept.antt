@@ -1,0 +1,53 @@
+-- What a sheet keeps.
+use Rattle.std.specs.Prelude.{◌<◌, ◌≤◌, ◌^◌, ◌*◌, ℕ, ℤ, pos, ◌≤ℤ◌, List, length, Option, IfSome, All, AllPairs}
+use Rattle.ofit_num.specs.Fraction.{Fraction, IsLowest}
+use Rattle.ofit_num.specs.Reduced as frac
+use Rattle.ofit_num.specs.Sheet as num
+use Rattle.ofit_study.specs.declared.settings.Settings.{Settings}
+use Rattle.ofit_study.specs.Settings.{InLimits}
+use Rattle.ofit_sheet.specs.declared.size.Size.{Size}
+
+-- the greatest amount of a flow
+abbrev pub most_amount : ℕ
+most_amount = 2 * 10 ^ 33
+
+-- the most rows that a sheet may name, and the greatest total weight
+abbrev pub most_rows : ℕ
+most_rows = 100000
+
+abbrev pub most_weight : ℕ
+most_weight = 10 ^ 10
+
+pub record IsSizeInLimits (rows weight : ℕ) : Type 0 where
+  pub few : rows ≤ most_rows
+  pub light : weight ≤ most_weight
+
+pub record IsAmountInLimits (amount : ℕ) : Type 0 where
+  pub least : 1 ≤ amount
+  pub most : amount ≤ most_amount
+
+pub record IsFractionInLimits (value : Fraction) : Type 0 where
+  pub lowest : IsLowest value
+  pub limits : frac.InLimits value
+
+-- the places of the values rise, the values are fractions in lowest terms, and all numbers are within their limits
+pub record IsKept (x : num.Sheet Settings) : Type 0 where
+  pub settings : InLimits x.settings
+  pub size : IfSome x.size (λ z. IsSizeInLimits z.rows z.weight)
+  pub rising : AllPairs (λ e f. e.place < f.place) x.values
+  pub fractions : All (λ e. IsFractionInLimits e.value) x.values
+  pub amounts : All (λ f. IsAmountInLimits f.amount) x.flows
+
+-- the parts of which a sheet is made: places that rise, amounts and a size within their limits
+pub record ArePartsOfSheet (size : Option Size) (values : List (ℕ × Fraction)) (flows : List (ℕ × ℕ × ℤ)) : Type 0 where
+  pub sized : IfSome size (λ z. IsSizeInLimits z.rows z.weight)
+  pub rising : AllPairs (λ e f. e.0 < f.0) values
+  pub amounts : All (λ f. (pos 1 ≤ℤ f.2) × (f.2 ≤ℤ pos most_amount)) flows
+
+-- what is known of the parts of a sheet
+pub record HasParts (settings : Settings) (size : Option Size) (values : List (ℕ × Fraction)) (flows : List (ℕ × ℕ × ℤ)) : Type 0 where
+  pub in_limits : InLimits settings
+  pub parts : ArePartsOfSheet size values flows
+  pub fractions : All (λ e. IsFractionInLimits e.1) values
+  pub few_values : length values < 2 ^ 32
+  pub few_flows : length flows < 2 ^ 32

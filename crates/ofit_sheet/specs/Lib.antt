@@ -1,0 +1,9 @@
+pub mod Parts
+pub mod Kept
+pub mod SheetText
+pub mod Spelling
+pub mod Rules
+pub mod Reading
+pub mod SheetRead
+pub mod Told
+pub mod Steps

@@ -1,0 +1,185 @@
+ghost use Rattle.std.specs.Prelude.{◌≡◌, ◌<◌, ◌++◌, ◌∷◌, [], IfOk, Some, length, map, decimal};
+ghost use Rattle.std.specs.Fmt.{signed_decimal};
+ghost use Rattle.ofit_num.specs.Sheet.{FitsCount};
+ghost use Rattle.ofit_records.specs.Written.{record_text, records_text};
+ghost use Rattle.ofit_study.specs.Study.{names_of};
+ghost use Rattle.ofit_sheet.specs.Parts.{size_of, entry_of, flow_of};
+ghost use Rattle.ofit_sheet.specs.SheetText.{loss_text, bound_text, header_fields, bounds_fields, size_fields, size_records, value_fields, flow_fields, sheet_text};
+
+use crate::sheet::Sheet;
+use crate::size::Size;
+use itoa::Buffer;
+use ofit_num::Frac;
+use ofit_records::RecordWriter;
+use ofit_study::{LossKind, Settings, Study};
+use std::alloc::{AllocError, Global};
+
+/// The name of a loss.
+fn loss_name(loss: LossKind) -> &'static [u8]
+    ensures { result.now ≡ loss_text loss }
+{
+    match loss {
+        LossKind::Squares => b"squares",
+        LossKind::Median => b"median",
+    }
+}
+
+/// The text of a bound.
+fn bound_name(bound: Option<i64>, buffer: &mut Buffer) -> &[u8]
+    ensures { result.now ≡ bound_text bound }
+{
+    match bound {
+        None => b"none",
+        Some(units) => buffer.format(units).as_bytes(),
+    }
+}
+
+/// Writes record 1.
+fn with_header(writer: RecordWriter, sheet: &Sheet) -> Result<RecordWriter, AllocError>
+    ensures { IfOk result (λ after. after ≡ writer ++ record_text (header_fields sheet.now)) }
+{
+    let settings = sheet.settings();
+    let mut places = Buffer::new();
+    let version: &[u8] = match sheet.size() {
+        None => b"1",
+        Some(_) => b"2",
+    };
+    let fields: [&[u8]; 4] = [
+        b"ofit-sheet",
+        version,
+        loss_name(settings.loss),
+        places.format(settings.places).as_bytes(),
+    ];
+    writer.with_record(&fields)
+}
+
+/// Writes the bounds.
+fn with_bounds(writer: RecordWriter, settings: &Settings) -> Result<RecordWriter, AllocError>
+    ensures { IfOk result (λ after. after ≡ writer ++ record_text (bounds_fields settings.now)) }
+{
+    let mut lo = Buffer::new();
+    let mut hi = Buffer::new();
+    let fields: [&[u8]; 4] = [
+        b"bounds",
+        bound_name(settings.lo, &mut lo),
+        bound_name(settings.hi, &mut hi),
+        b"-",
+    ];
+    writer.with_record(&fields)
+}
+
+/// Writes a size.
+fn with_size_record(writer: RecordWriter, size: Size) -> Result<RecordWriter, AllocError>
+    ensures { IfOk result (λ after. after ≡ writer ++ record_text (size_fields (size_of size))) }
+{
+    let mut rows = Buffer::new();
+    let mut weight = Buffer::new();
+    let fields: [&[u8]; 4] = [
+        b"size",
+        rows.format(size.rows).as_bytes(),
+        weight.format(size.weight).as_bytes(),
+        b"-",
+    ];
+    writer.with_record(&fields)
+}
+
+/// Writes the size, where the sheet has one.
+fn with_size(writer: RecordWriter, sheet: &Sheet) -> Result<RecordWriter, AllocError>
+    ensures { IfOk result (λ after. after ≡ writer ++ records_text (size_records sheet.now.size)) }
+{
+    match sheet.size() {
+        None => Ok(writer),
+        Some(size) => with_size_record(writer, size),
+    }
+}
+
+/// Writes the value of a group.
+fn with_value(
+    writer: RecordWriter,
+    study: &Study,
+    place: u32,
+    value: Frac,
+) -> Result<RecordWriter, AllocError>
+    requires { place < length (names_of study.now) }
+    ensures { IfOk result (λ after. after ≡ writer ++ record_text (value_fields (names_of study.now) (entry_of (place, value)))) }
+{
+    let mut num = Buffer::new();
+    let mut den = Buffer::new();
+    let fields: [&[u8]; 4] = [
+        b"value",
+        study.group_name(place),
+        num.format(value.num()).as_bytes(),
+        den.format(value.den()).as_bytes(),
+    ];
+    writer.with_record(&fields)
+}
+
+/// Writes a flow.
+fn with_flow(
+    writer: RecordWriter,
+    study: &Study,
+    flow: (u32, u32, i128),
+) -> Result<RecordWriter, AllocError>
+    requires low { flow.0 < length (names_of study.now) }
+    requires high { flow.1 < length (names_of study.now) }
+    ensures { IfOk result (λ after. after ≡ writer ++ record_text (flow_fields (names_of study.now) (flow_of flow))) }
+{
+    let (low, high, amount) = flow;
+    let mut size = Buffer::new();
+    let fields: [&[u8]; 4] = [
+        b"flow",
+        study.group_name(low),
+        study.group_name(high),
+        size.format(amount.unsigned_abs()).as_bytes(),
+    ];
+    writer.with_record(&fields)
+}
+
+/// Writes the values by rising place.
+fn with_values(
+    writer: RecordWriter,
+    study: &Study,
+    sheet: &Sheet,
+) -> Result<RecordWriter, AllocError>
+    requires { FitsCount (length (names_of study.now)) sheet.now }
+    ensures { IfOk result (λ after. after ≡ writer ++ records_text (map (value_fields (names_of study.now)) sheet.now.values)) }
+{
+    let mut writer = writer;
+    for index in 0..sheet.value_count() {
+        let (place, value) = sheet.value_at(index);
+        writer = with_value(writer, study, place, value)?;
+    }
+    Ok(writer)
+}
+
+/// Writes the flows in their order.
+fn with_flows(
+    writer: RecordWriter,
+    study: &Study,
+    sheet: &Sheet,
+) -> Result<RecordWriter, AllocError>
+    requires { FitsCount (length (names_of study.now)) sheet.now }
+    ensures { IfOk result (λ after. after ≡ writer ++ records_text (map (flow_fields (names_of study.now)) sheet.now.flows)) }
+{
+    let mut writer = writer;
+    for index in 0..sheet.flow_count() {
+        writer = with_flow(writer, study, sheet.flow_at(index))?;
+    }
+    Ok(writer)
+}
+
+/// The text of a sheet for a study that names its groups: version 2 for a sheet with a size, and else
+/// version 1. Time and memory linear in the text.
+pub fn write_sheet(alloc: Global, study: &Study, sheet: &Sheet) -> Result<Vec<u8>, AllocError>
+    requires { FitsCount (length (names_of study.now)) sheet.now }
+    ensures { IfOk result (λ text. text.items ≡ sheet_text (names_of study.now) sheet.now) }
+{
+    let writer = with_header(RecordWriter::new(alloc), sheet)?;
+    let writer = with_bounds(writer, sheet.settings())?;
+    let writer = with_size(writer, sheet)?;
+    let writer = with_values(writer, study, sheet)?;
+    let writer = with_flows(writer, study, sheet)?;
+    let end: [&[u8]; 4] = [b"end", b"-", b"-", b"-"];
+    let writer = writer.with_record(&end)?;
+    writer.into_text()
+}

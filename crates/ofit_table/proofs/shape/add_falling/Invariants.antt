@@ -1,0 +1,6 @@
+use Rattle.std.proofs.Common.{◌≡◌, ◌++◌}
+use Rattle.ofit_table.specs.PatternRead.{falling}
+use Rattle.ofit_table.proofs.shape.add_falling.Given as goal
+
+abbrev pub invariant-loop-i : goal.invariant-loop-i
+invariant-loop-i l = l.pairs.items ≡ l.initial.pairs.items ++ falling l.first l.i

@@ -1,0 +1,149 @@
+-- The rows of a data table.
+use Rattle.std.specs.Prelude.{◌≡◌, ◌≢◌, ◌≤◌, ◌<◌, ◌+◌, ◌^◌, ◌⊎◌, ◌++◌, ◌∷◌, ℕ, ℤ, pos, unsigned_abs, List, Option, Some, None, All, length, slice_get, ⊤}
+use Rattle.std.specs.List.{AllZip}
+use Rattle.ofit_num.specs.DecimalText.{IsNumber, IsUnits}
+use Rattle.ofit_study.specs.Kept.{AreNumbered}
+use Rattle.ofit_study.specs.Name.{IsName}
+use Rattle.ofit_study.specs.Study.{Observation, group_names, most_groups, most_rows, total_weight}
+use Rattle.ofit_table.specs.declared.fault.DataFault.{DataFault}
+use Rattle.ofit_table.specs.declared.fault.DataFault.TheVariants.{NoHeader, NoColumn, ColumnTwice, FieldMissing, NotName, NotNumber, TooFine, TooLarge, BadWeight, TooManyRows, TooHeavy, TooManyGroups, Memory}
+use Rattle.ofit_table.specs.declared.header.DataColumns.{DataColumns}
+
+-- the fields of a record that are used
+pub record Texts : Type 0 where
+  pub group : List ℕ
+  pub value : List ℕ
+  pub weight : Option (List ℕ)
+
+-- the weight's field, where there is a weight column
+abbrev pub IsWeightText : Option ℕ → List (List ℕ) → Option (List ℕ) → Type 0
+IsWeightText None fields None = ⊤
+IsWeightText None fields (Some text) = ⊥
+IsWeightText (Some place) fields None = ⊥
+IsWeightText (Some place) fields (Some text) = slice_get fields place ≡ Some text
+
+pub record AreTexts (columns : DataColumns) (fields : List (List ℕ)) (texts : Texts) : Type 0 where
+  pub group : slice_get fields columns.group ≡ Some texts.group
+  pub value : slice_get fields columns.value ≡ Some texts.value
+  pub weight : IsWeightText columns.weight fields texts.weight
+
+abbrev pub IsShortOf : Option ℕ → List (List ℕ) → Type 0
+IsShortOf None fields = ⊥
+IsShortOf (Some place) fields = length fields ≤ place
+
+-- the record is too short for a column that is used
+abbrev pub IsTooShort : DataColumns → List (List ℕ) → Type 0
+IsTooShort columns fields = (length fields ≤ columns.group) ⊎ (length fields ≤ columns.value) ⊎ IsShortOf columns.weight fields
+
+-- a value in units, at most 10^9 of them in absolute value
+pub record IsValue (places : ℕ) (text : List ℕ) (value : ℤ) : Type 0 where
+  pub units : IsUnits text places value
+  pub most : unsigned_abs value ≤ 10 ^ 9
+
+-- a weight: a whole number from 1 to 10^10 that a decimal spells, and 1 where there is no weight column
+abbrev pub IsWeight : Option (List ℕ) → ℕ → Type 0
+IsWeight None weight = weight ≡ 1
+IsWeight (Some text) weight = IsUnits text 0 (pos weight) × (1 ≤ weight) × (weight ≤ 10 ^ 10)
+
+-- what stands in a record without a fault of its own
+pub record IsGood (places : ℕ) (columns : DataColumns) (fields : List (List ℕ)) (group : List ℕ) (value : ℤ) (weight : ℕ) : Type 0 where
+  pub texts : Texts
+  pub taken : AreTexts columns fields texts
+  pub same : texts.group ≡ group
+  pub name : IsName group
+  pub is_value : IsValue places texts.value value
+  pub is_weight : IsWeight texts.weight weight
+
+-- the record's row
+abbrev pub IsRow : ℕ → DataColumns → List (List ℕ) → Observation → Type 0
+IsRow places columns fields row = IsGood places columns fields row.group row.value row.weight
+
+-- the rows of records without a fault: each record's row, numbered from 1 on, within the limits
+pub record AreRows (places : ℕ) (columns : DataColumns) (records : List (List (List ℕ))) (rows : List Observation) : Type 0 where
+  pub each : AllZip (IsRow places columns) records rows
+  pub numbered : AreNumbered rows
+  pub few : length rows ≤ most_rows
+  pub light : total_weight rows ≤ 10 ^ 10
+  pub groups : length (group_names rows) ≤ most_groups
+
+-- the used fields of a record are these, and its group is a name
+pub record AreNamed (columns : DataColumns) (fields : List (List ℕ)) (texts : Texts) : Type 0 where
+  pub taken : AreTexts columns fields texts
+  pub name : IsName texts.group
+
+-- why a text gives no value: it isn't a decimal, else it isn't a whole number of units, else that passes 10^9
+abbrev pub ValueFault : ℕ → List ℕ → ℕ → DataFault → Type 0
+ValueFault places text number (NotNumber n) = (n ≡ number) × (IsNumber text → ⊥)
+ValueFault places text number (TooFine n) = (n ≡ number) × IsNumber text × ((value : ℤ) → IsUnits text places value → ⊥)
+ValueFault places text number (TooLarge n) = (n ≡ number) × (value : ℤ) × IsUnits text places value × (10 ^ 9 < unsigned_abs value)
+ValueFault places text number NoHeader = ⊥
+ValueFault places text number (NoColumn column) = ⊥
+ValueFault places text number (ColumnTwice column) = ⊥
+ValueFault places text number (FieldMissing n) = ⊥
+ValueFault places text number (NotName n) = ⊥
+ValueFault places text number (BadWeight n) = ⊥
+ValueFault places text number (TooManyRows n) = ⊥
+ValueFault places text number (TooHeavy n) = ⊥
+ValueFault places text number (TooManyGroups n) = ⊥
+ValueFault places text number Memory = ⊥
+
+abbrev pub HasValueFault : ℕ → DataColumns → List (List ℕ) → ℕ → DataFault → Type 0
+HasValueFault places columns fields number fault = (texts : Texts) × AreNamed columns fields texts × ValueFault places texts.value number fault
+
+-- the first fault of a record with this number alone
+abbrev pub OwnFault : ℕ → DataColumns → List (List ℕ) → ℕ → DataFault → Type 0
+OwnFault places columns fields number (FieldMissing n) = (n ≡ number) × IsTooShort columns fields
+OwnFault places columns fields number (NotName n) = (n ≡ number) × (texts : Texts) × AreTexts columns fields texts × (IsName texts.group → ⊥)
+OwnFault places columns fields number (NotNumber n) = HasValueFault places columns fields number (NotNumber n)
+OwnFault places columns fields number (TooFine n) = HasValueFault places columns fields number (TooFine n)
+OwnFault places columns fields number (TooLarge n) = HasValueFault places columns fields number (TooLarge n)
+OwnFault places columns fields number (BadWeight n) =
+    (n ≡ number) × (texts : Texts) × AreNamed columns fields texts × ((value : ℤ) × IsValue places texts.value value)
+    × ((weight : ℕ) → IsWeight texts.weight weight → ⊥)
+OwnFault places columns fields number NoHeader = ⊥
+OwnFault places columns fields number (NoColumn column) = ⊥
+OwnFault places columns fields number (ColumnTwice column) = ⊥
+OwnFault places columns fields number (TooManyRows n) = ⊥
+OwnFault places columns fields number (TooHeavy n) = ⊥
+OwnFault places columns fields number (TooManyGroups n) = ⊥
+OwnFault places columns fields number Memory = ⊥
+
+-- the first limit that a row of this group and weight passes behind these rows
+abbrev pub LimitFault : List Observation → List ℕ → ℕ → ℕ → DataFault → Type 0
+LimitFault before group weight number (TooManyRows n) = (n ≡ number) × (most_rows ≤ length before)
+LimitFault before group weight number (TooHeavy n) = (n ≡ number) × (length before < most_rows) × (10 ^ 10 < total_weight before + weight)
+LimitFault before group weight number (TooManyGroups n) =
+    (n ≡ number) × (length before < most_rows) × (total_weight before + weight ≤ 10 ^ 10)
+    × All (λ known. known ≢ group) (group_names before) × (most_groups ≤ length (group_names before))
+LimitFault before group weight number NoHeader = ⊥
+LimitFault before group weight number (NoColumn column) = ⊥
+LimitFault before group weight number (ColumnTwice column) = ⊥
+LimitFault before group weight number (FieldMissing n) = ⊥
+LimitFault before group weight number (NotName n) = ⊥
+LimitFault before group weight number (NotNumber n) = ⊥
+LimitFault before group weight number (TooFine n) = ⊥
+LimitFault before group weight number (TooLarge n) = ⊥
+LimitFault before group weight number (BadWeight n) = ⊥
+LimitFault before group weight number Memory = ⊥
+
+-- a record without a fault of its own whose row passes a limit behind these rows
+pub record IsTooMuch (places : ℕ) (columns : DataColumns) (before : List Observation) (fields : List (List ℕ)) (number : ℕ) (fault : DataFault) : Type 0 where
+  pub group : List ℕ
+  pub value : ℤ
+  pub weight : ℕ
+  pub good : IsGood places columns fields group value weight
+  pub passed : LimitFault before group weight number fault
+
+-- the first fault of a record with this number behind these rows: its own, or else the limit that it passes
+abbrev pub RowFault : ℕ → DataColumns → List Observation → List (List ℕ) → ℕ → DataFault → Type 0
+RowFault places columns before fields number fault = OwnFault places columns fields number fault ⊎ IsTooMuch places columns before fields number fault
+
+-- the first of the records behind the header that has a fault, and this one; the header has the number 1
+pub record HasFault (places : ℕ) (columns : DataColumns) (records : List (List (List ℕ))) (fault : DataFault) : Type 0 where
+  pub before : List (List (List ℕ))
+  pub fields : List (List ℕ)
+  pub after : List (List (List ℕ))
+  pub rows : List Observation
+  pub spells : records ≡ before ++ fields ∷ after
+  pub fine : AreRows places columns before rows
+  pub found : RowFault places columns rows fields (length rows + 2) fault

@@ -1,0 +1,13 @@
+pub mod Falls
+pub mod Pairs
+pub mod LowBlocks
+pub mod TreeBlocks
+pub mod Pools
+pub mod Slots
+pub mod Ranks
+pub mod Closing
+pub mod Absorbing
+pub mod Starting
+pub mod Steps
+pub mod Queues
+pub mod Ending

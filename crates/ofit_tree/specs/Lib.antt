@@ -1,0 +1,5 @@
+pub mod Entry
+pub mod Tree
+pub mod Level
+pub mod Merge
+pub mod Forest
