@@ -13,3 +13,4 @@ pub mod Adding
 pub mod Settled
 pub mod Turned
 pub mod Choices
+pub mod Shifts

@@ -8,3 +8,4 @@ pub mod Balanced
 pub mod Edges
 pub mod Slack
 pub mod Open
+pub mod Balances

@@ -21,6 +21,13 @@ impl Model for Amounts {
 }
 
 impl Amounts {
+    /// These amounts.
+    pub(crate) fn of(amounts: Vec<i128>) -> Amounts
+        ensures { result ≡ amounts.items }
+    {
+        Amounts { amounts }
+    }
+
     /// What the first edges of a flow carry.
     pub(crate) fn of_first(
         alloc: Global,

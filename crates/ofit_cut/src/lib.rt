@@ -7,17 +7,23 @@
 //!
 //! [`upper_cut`] and [`lower_cut`] find a set of the greatest sum of weights by one minimum cut, and
 //! [`balance_flow`] finds flows along the pairs whose balance at each node lies in the node's span,
-//! or a set that shows that there are none, by at most two. All sums stay within 128 bits. They are
-//! as slow as [`ofit_flow`]'s maximum flow is on such nets.
+//! or a set that shows that there are none, by at most two; where the pairs are a forest it finds them
+//! in linear time. All sums stay within 128 bits. The cuts are as slow as [`ofit_flow`]'s maximum flow
+//! is on such nets.
 #![tactic(auto)]
 
 mod amounts;
 mod balance;
 mod balanced;
+mod balances;
 mod cut;
 mod edges;
 mod limits;
 mod members;
+mod peel;
+#[cfg(test)]
+mod peel_tests;
+mod peeled;
 mod settle;
 mod slack;
 mod solve;

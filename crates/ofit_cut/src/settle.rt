@@ -1,4 +1,4 @@
-//! Flows within spans, or a set against them, by one maximum flow.
+//! Flows within spans, or a set against them, by one maximum flow where leaves can't be peeled.
 
 ghost use Rattle.std.specs.Prelude.{◌≡◌, ◌<◌, ◌≤◌, ◌*◌, ◌^◌, All, IfOk, length};
 ghost use Rattle.ofit_cut.specs.Sets.{AreWithin};
@@ -10,6 +10,7 @@ use crate::balanced::Balanced;
 use crate::edges::Ends;
 use crate::limits::{MAX_NODES, MAX_PAIRS};
 use crate::members::Members;
+use crate::peeled::peeled;
 use crate::slack::{balance_edges, bases_of, totals_of};
 use crate::solve::solve;
 use crate::span::Span;
@@ -17,8 +18,9 @@ use std::alloc::{AllocError, Global};
 
 /// Flows within the spans, or whichever set the minimum cut shows against them.
 ///
-/// Each node gives what its balance nearest to 0 is, and a hub makes up the differences within the
-/// spans: a circulation with lower bounds (Hoffman 1960) as one maximum flow.
+/// Where the pairs are a forest, peeling its leaves finds flows in linear time. Otherwise each node
+/// gives what its balance nearest to 0 is, and a hub makes up the differences within the spans: a
+/// circulation with lower bounds (Hoffman 1960) as one maximum flow.
 pub(crate) fn settle(
     alloc: Global,
     pairs: &[(u32, u32)],
@@ -31,6 +33,10 @@ pub(crate) fn settle(
     requires small { total_span spans.now ≤ 2 * 10 ^ 33 }
     ensures { IfOk result (Tells pairs.now spans.now) }
 {
+    let guessed = peeled(alloc, pairs, spans)?;
+    if let Some(amounts) = guessed {
+        return Ok(Balanced::Flows(Amounts::of(amounts)));
+    }
     let nodes = spans.len() as u32;
     let hub = nodes;
     let ends = Ends {

@@ -1,9 +1,4 @@
-pub mod Splits
-pub mod PlainLines
-pub mod NameSets
-pub mod PlainTables
-pub mod PlainGroups
-pub mod ValueLines
 pub mod Pieces
-pub mod FourWords
-pub mod HeldTables
+pub mod Counted
+pub mod Endings
+pub mod OnErr

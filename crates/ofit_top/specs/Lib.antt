@@ -1,10 +1,5 @@
-pub mod Field
-pub mod PlainTable
-pub mod Parts
-pub mod Names
-pub mod Table
-pub mod SheetText
-pub mod Flows
-pub mod Runs
-pub mod Answer
+pub mod Jobs
+pub mod Counting
 pub mod Run
+pub mod Verdicts
+pub mod Accepted

@@ -1,23 +1,48 @@
-ghost use Rattle.std.specs.Prelude.{IfOk};
-ghost use Rattle.ofit_top.specs.PlainTable.{ArePlain};
-ghost use Rattle.ofit_top.specs.Run.{IsSheetOf};
-ghost use Rattle.ofit_top.specs.Table.{observations};
+ghost use Rattle.std.specs.Prelude.{◌≡◌, ◌≤◌, ◌^◌, ℕ, IfOk, IfErr, OnOk};
+ghost use Rattle.ofit_words.specs.Words.{IsJobInLimits};
+ghost use Rattle.ofit_input.specs.Stops.{Stops};
+ghost use Rattle.ofit_top.specs.Jobs.{JobGives, IsRefused};
+ghost use Rattle.ofit_top.specs.Counting.{counted, CountsStopped};
 
-use crate::flows::chain_flows;
-use crate::groups::groups_of;
-use crate::reading::Line;
-use crate::sheet::sheet_of;
-use ofit_chain::fit_chain;
-use ofit_loss::Squares;
-use std::alloc::{AllocError, Global};
+use crate::fit::fit_text;
+use crate::printed::Printed;
+use crate::verify::verify_text;
+use ofit_answer::{Answer, Refusal};
+use ofit_num::Tally;
+use ofit_outside::Folder;
+use ofit_words::Job;
+use std::alloc::Global;
 
-/// The text of the sheet of a table's chain fit under squares.
-pub(crate) fn fit_text(alloc: Global, lines: &[Line]) -> Result<Vec<u8>, AllocError>
-    requires { ArePlain (observations lines.now) }
-    ensures { IfOk result (λ text. IsSheetOf (observations lines.now) text.items) }
+/// Does a job up to its text. Otherwise how the run ends: the first refusal, a read fault, or want of
+/// memory.
+pub(crate) fn do_job<F: Folder>(
+    alloc: Global,
+    job: &Job,
+    folder: &mut F,
+    tally: &mut Tally,
+) -> Result<Printed, Answer>
+    requires limits { IsJobInLimits job.now }
+    requires room { tally.old.fits ≤ 2 ^ 63 }
+    ensures gives { IfOk result (λ printed. (n : ℕ) × JobGives (F.held folder.old) job.now printed.answer printed.text.items n × (tally.new ≡ counted n tally.old)) }
+    ensures stops { IfErr result (λ answer. Stops (F.faults folder.old) (F.faults folder.new) (IsRefused (F.held folder.old) job.now) answer) }
+    ensures counts { IfErr result (λ answer. CountsStopped (F.held folder.old) job.now tally.old tally.new answer) }
+    ensures stays { OnOk result (F.faults folder.new ≡ F.faults folder.old) }
+    ensures held { F.held folder.new ≡ F.held folder.old }
 {
-    let groups = groups_of(alloc, lines)?;
-    let values = fit_chain::<Squares>(alloc, &groups)?;
-    let flows = chain_flows(alloc, lines, &values)?;
-    sheet_of(alloc, lines, &values, &flows)
+    match job {
+        Job::Fit(inputs) => match fit_text(alloc, folder, inputs, tally) {
+            Ok(text) => Ok(Printed {
+                answer: Answer::Done,
+                text,
+            }),
+            Err(answer) => Err(answer),
+        },
+        Job::Verify(inputs, sheet) => verify_text(alloc, folder, inputs, sheet.as_str()),
+        Job::Report(_)
+        | Job::Session(_, _)
+        | Job::Unimodal(_, _)
+        | Job::VerifyUnimodal(_, _, _)
+        | Job::Levels(_)
+        | Job::Sample(_) => Err(Answer::Refused(Refusal::NotBuilt)),
+    }
 }

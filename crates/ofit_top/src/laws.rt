@@ -1,12 +1,22 @@
-ghost use Rattle.std.specs.Prelude.{◌≡◌, List, ℕ, Some};
+ghost use Rattle.std.specs.Prelude.{◌≡◌, ◌+◌, List, ℕ, Option, Ok};
 ghost use Rattle.ofit_outside.specs.Folder.{Held};
-ghost use Rattle.ofit_top.specs.declared.answer.Answer.{Answer};
-ghost use Rattle.ofit_top.specs.PlainTable.{Observation, ArePlain};
-ghost use Rattle.ofit_top.specs.Run.{fit_words, HoldsTable, IsNoRefusal, Refuses};
+ghost use Rattle.ofit_num.specs.Tally.{Counts};
+ghost use Rattle.ofit_words.specs.declared.job.Job.{Job};
+ghost use Rattle.ofit_words.specs.Words.{WordsRead};
+ghost use Rattle.ofit_answer.specs.declared.answer.Answer.{Answer};
+ghost use Rattle.ofit_answer.specs.declared.answer.Refusal.{Refusal};
+ghost use Rattle.ofit_top.specs.Accepted.{IsNoRefusal};
+ghost use Rattle.ofit_top.specs.Jobs.{IsRefused};
+ghost use Rattle.ofit_top.specs.Run.{Writes};
 
-/// No held table of the plain form is refused: where the words ask for its fit, a run is done,
-/// unless the folder or the output fails or memory is wanting.
-pub fn held_tables_are_fitted()
-    ensures { (name : List ℕ) (words : List (List ℕ)) (held : Held) (os : List Observation) (answer : Answer) →
-        words ≡ fit_words name → ArePlain os → HoldsTable held name os → Refuses words (Some held) answer → IsNoRefusal answer }
-{}
+use ofit_words::words_have_one_reading;
+
+/// No run is refused without a cause: where the words are a job of which nothing is a refusal, the run
+/// is done or tells its verdict, unless the folder or the output fails or memory is wanting.
+pub fn accepted_inputs_are_answered()
+    ensures { (words : List (List ℕ)) (held : Option Held) (job : Job) (before after : Option (List ℕ)) (old new : Counts) (answer : Answer)
+        → WordsRead words (Ok job) → ((refusal : Refusal) → IsRefused held job refusal → ⊥)
+        → Writes words held before after old new answer → IsNoRefusal answer }
+{
+    words_have_one_reading();
+}

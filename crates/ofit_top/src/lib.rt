@@ -2,25 +2,16 @@
 //! to the bytes of the output.
 #![tactic(auto)]
 
-mod answer;
-mod field;
-mod flow;
-mod flows;
-mod groups;
-mod input;
+mod fit;
 mod job;
 mod laws;
-mod line;
-mod names;
 mod output;
-mod reading;
-mod sheet;
-mod table;
-mod text;
+mod printed;
 mod top;
+mod verify;
 
-pub use answer::{Answer, Refusal, Which, status};
-pub use laws::held_tables_are_fitted;
+pub use laws::accepted_inputs_are_answered;
+pub use ofit_answer::{Answer, Refusal, Which, status};
 pub use top::run;
 
 #[cfg(test)]

@@ -1,42 +1,50 @@
-ghost use Rattle.std.specs.Prelude.{◌≡◌, ◌≤◌, ◌<◌, ◌^◌, IfOk, IfErr};
-ghost use Rattle.ofit_top.specs.PlainTable.{ArePlain};
-ghost use Rattle.ofit_top.specs.Run.{texts, Writes, Refuses, CountsRead, CountsWrite, IsSheetOf, counted};
-ghost use Rattle.ofit_top.specs.Table.{observations};
+ghost use Rattle.std.specs.Prelude.{◌≡◌, ◌≤◌, ◌^◌};
+ghost use Rattle.ofit_answer.specs.Tells.{Tells};
+ghost use Rattle.ofit_top.specs.Run.{texts, Writes, CountsRead, CountsWrite};
 
-use crate::answer::{Answer, Refusal};
-use crate::input::{asked_name, table_of};
-use crate::job::fit_text;
+use crate::job::do_job;
 use crate::output::put_text;
-use crate::reading::Line;
+use ofit_answer::{Answer, tell};
 use ofit_num::Tally;
 use ofit_outside::{Folder, Sink};
+use ofit_words::{WordFault, read_words};
 use std::alloc::Global;
 
-/// The text of a table's fit, which is counted where there is a group.
-fn fit<'a>(alloc: Global, lines: &[Line], tally: &mut Tally) -> Result<Vec<u8>, Answer>
-    requires plain { ArePlain (observations lines.now) }
-    requires room { tally.old.fits ≤ 2 ^ 63 }
-    ensures text { IfOk result (λ text. IsSheetOf (observations lines.now) text.items) }
-    ensures counts { IfOk result (λ text. tally.new ≡ counted (observations lines.now) tally.old) }
-    ensures memory { IfErr result (λ answer. answer ≡ Answer.Memory) }
-    ensures stays { IfErr result (λ answer. tally.new ≡ tally.old) }
+/// Does what the words ask for, and answers how it ended.
+fn do_words<F: Folder, O: Sink>(
+    alloc: Global,
+    words: &[String],
+    folder: &mut F,
+    out: &mut O,
+    tally: &mut Tally,
+) -> Answer
+    requires { tally.old.fits ≤ 2 ^ 63 }
+    ensures writes { Writes (texts words.now) (F.held folder.old) (O.written out.old) (O.written out.new) tally.old tally.new result }
+    ensures reads { CountsRead (F.faults folder.old) (F.faults folder.new) result }
+    ensures puts { CountsWrite (O.faults out.old) (O.faults out.new) result }
+    ensures held { F.held folder.new ≡ F.held folder.old }
 {
-    match fit_text(alloc, lines) {
-        Ok(text) => {
-            if !lines.is_empty() {
-                tally.note_fit();
-            }
-            Ok(text)
-        }
-        Err(_) => Err(Answer::Memory),
+    let job = match read_words(alloc, words) {
+        Ok(job) => job,
+        Err(WordFault::Memory) => return Answer::Memory,
+        Err(fault) => return Answer::Words(fault),
+    };
+    let printed = match do_job(alloc, &job, folder, tally) {
+        Ok(printed) => printed,
+        Err(answer) => return answer,
+    };
+    match put_text(out, printed.text.as_slice()) {
+        Ok(()) => printed.answer,
+        Err(_) => Answer::WriteFault,
     }
 }
 
-/// Does what the words ask for: reads the named file from the folder, fits it and writes the sheet
-/// to `out`. Only `fit NAME order=chain places=0` is known yet, over a table of the plain form.
-/// Nothing goes to `err` yet.
+/// Does what the words ask for: reads the named files from the folder, fits or verifies, and writes the
+/// output to `out`. A run that is refused, or that folder, output or memory ends, tells why in one line
+/// on `err`; a failing `err` changes no answer.
 ///
-/// The whole output is made before any of it is written; it is put in pieces of 4,096 bytes.
+/// The whole output is made before any of it is written; it is put in pieces of 4,096 bytes. The tally
+/// counts each component of an order that is fitted.
 pub fn run<F: Folder, O: Sink, E: Sink>(
     alloc: Global,
     words: &[String],
@@ -47,25 +55,12 @@ pub fn run<F: Folder, O: Sink, E: Sink>(
 ) -> Answer
     requires { tally.old.fits ≤ 2 ^ 63 }
     ensures writes { Writes (texts words.now) (F.held folder.old) (O.written out.old) (O.written out.new) tally.old tally.new result }
-    ensures refuses { Refuses (texts words.now) (F.held folder.old) result }
     ensures reads { CountsRead (F.faults folder.old) (F.faults folder.new) result }
     ensures puts { CountsWrite (O.faults out.old) (O.faults out.new) result }
-    ensures err { err.new ≡ err.old }
+    ensures tells { Tells (E.written err.old) (E.written err.new) (E.faults err.old) (E.faults err.new) result }
+    ensures held { F.held folder.new ≡ F.held folder.old }
 {
-    let _ = err;
-    let Some(name) = asked_name(words) else {
-        return Answer::Refused(Refusal::NotBuilt);
-    };
-    let lines = match table_of(alloc, name, folder) {
-        Ok(lines) => lines,
-        Err(answer) => return answer,
-    };
-    let text = match fit(alloc, &lines, tally) {
-        Ok(text) => text,
-        Err(answer) => return answer,
-    };
-    match put_text(out, &text) {
-        Ok(()) => Answer::Done,
-        Err(_) => Answer::WriteFault,
-    }
+    let answer = do_words(alloc, words, folder, out, tally);
+    tell(err, &answer);
+    answer
 }

@@ -1,0 +1,3 @@
+pub mod NameLines
+pub mod Named
+pub mod Pieces

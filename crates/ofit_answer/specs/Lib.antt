@@ -1,0 +1,5 @@
+pub mod ErrorText
+pub mod MessageText
+pub mod Status
+pub mod Tells
+pub mod VerdictText

@@ -1,0 +1,16 @@
+//! How a run of the program ends: its answer, the exit status and the line for the error output, and
+//! the line of a verdict. The texts stand in `specs/`: `ErrorText` has the lines of answers,
+//! `VerdictText` those of verdicts.
+#![tactic(auto)]
+
+mod answer;
+mod line;
+mod message;
+mod verdict;
+
+pub use answer::{Answer, Refusal, Which, status};
+pub use line::tell;
+pub use verdict::verdict_line;
+
+#[cfg(test)]
+mod tests;

@@ -1,0 +1,11 @@
+pub mod Places
+pub mod Steps
+pub mod Spanning
+pub mod OwnTerms
+pub mod Sizes
+pub mod Barred
+pub mod Ready
+pub mod Flowing
+pub mod Entering
+pub mod Passing
+pub mod Made
