@@ -76,7 +76,7 @@ fn sheet_of(study: &Study, entries: Vec<(u32, Frac)>, flows: Vec<(u32, u32, i128
 
 /// A sheet with these values, all groups in order, whose size is the study's rows and total weight,
 /// and that passes the checker. Its flows are along pairs of equal values, in the order of the pairs,
-/// each of at least 1. One maximum flow.
+/// each of at least 1. Linear time where those pairs are a forest, and else at most one maximum flow.
 pub fn certify(alloc: Global, study: &Study, values: &[Frac]) -> Result<Sheet, AllocError>
     requires best { BestValues (meaning_of study.now.settings.loss) (problem_stated study.now) values.now }
     ensures fits { IfOk result (FitsCount (length (names_of study.now))) }

@@ -9,10 +9,12 @@
 mod certificate;
 mod entries;
 mod flows;
+mod laws;
 mod spans;
 mod tight;
 
 pub use certificate::certify;
+pub use laws::best_values_are_not_barred;
 
 #[cfg(test)]
 mod tests;

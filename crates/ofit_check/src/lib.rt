@@ -12,3 +12,6 @@ mod verdict;
 
 pub use check::verdict_sheet;
 pub use verdict::Verdict;
+
+#[cfg(test)]
+mod tests;

@@ -1,3 +1,6 @@
+mod paths;
+mod shapes;
+
 use crate::{fit_component, fit_study, fits_compose, has_pooled_forms};
 use ofit_num::{Frac, Tally};
 use ofit_study::{LossKind, Settings, Study, is_name};

@@ -1,3 +1,6 @@
+mod pairs;
+mod rows;
+
 use crate::{LossKind, Name, Pattern, Settings, is_name};
 use std::test::Fail;
 

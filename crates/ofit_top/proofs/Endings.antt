@@ -1,5 +1,5 @@
 -- How the ending of a job becomes that of a run.
-use Rattle.std.proofs.Common.{◌≡◌, ◌⊎◌, inl, inr, ◌+◌, ℕ, List, refl, sym, ap, ◌∙◌, subst, arith}
+use Rattle.std.proofs.Common.{◌≡◌, ◌⊎◌, inl, inr, ℕ, List, refl, subst}
 use Rattle.std.specs.Prelude.{Option, Result, Ok, Err, IsErrOf}
 use Rattle.ofit_outside.specs.Folder.{Held}
 use Rattle.ofit_outside.specs.Sink.{with_more}
@@ -13,23 +13,26 @@ use Rattle.ofit_answer.specs.declared.answer.Answer.TheVariants.{Done, Fails, Wo
 use Rattle.ofit_answer.specs.declared.answer.Refusal.{Refusal}
 use Rattle.ofit_input.specs.Stops.{Stops}
 use Rattle.ofit_top.specs.Accepted.{IsNoRefusal}
-use Rattle.ofit_top.specs.Jobs.{JobGives, IsRefused}
+use Rattle.ofit_top.specs.Jobs.{JobGives, IsRefused, Fetches}
 use Rattle.ofit_top.specs.Counting.{counted, CountsStopped}
-use Rattle.ofit_top.specs.Run.{RunGives, Writes, CountsRead, CountsWrite}
-use Rattle.ofit_top.proofs.Pieces.{with_more-nil}
+use Rattle.ofit_top.specs.Run.{RunGives, IsOutput, Writes, CountsRead, CountsWrite}
 
-no_more : (old new : Counts) (n : ℕ) → n ≡ 0 → new ≡ counted n old → new ≡ old
-no_more old new n z e = e ∙ ap (λ (k : ℕ). counted k old) z ∙ ap (λ (k : ℕ). record { fits = k; cuts = old.cuts }) plus
-  where
-    plus : old.fits + 0 ≡ old.fits
-    plus = omega arith
+-- a job's own answer goes with an output
+pub job_output : (held : Option Held) (job : Job) (answer : Answer) (text : List ℕ) (n : ℕ) → JobGives held job answer text n → IsOutput answer
+job_output held job Done text n gives = tt
+job_output held job (Fails said) text n gives = tt
+job_output held job (Words fault) text n gives = absurd gives
+job_output held job (Refused refusal) text n gives = absurd gives
+job_output held job ReadFault text n gives = absurd gives
+job_output held job WriteFault text n gives = absurd gives
+job_output held job Memory text n gives = absurd gives
 
 -- a job that words ask for gives what the run gives
 pub asked : (words : List (List ℕ)) (held : Option Held) (job : Job) (answer : Answer) (text : List ℕ) (n : ℕ) → WordsRead words (Ok job) → JobGives held job answer text n → RunGives words held answer text n
 asked words held job Done text n read gives = (job, read, gives)
 asked words held job (Fails said) text n read gives = (job, read, gives)
 asked words held job (Words fault) text n read gives = absurd gives
-asked words held job (Refused refusal) text n read gives = (job, read, gives)
+asked words held job (Refused refusal) text n read gives = absurd gives
 asked words held job ReadFault text n read gives = absurd gives
 asked words held job WriteFault text n read gives = absurd gives
 asked words held job Memory text n read gives = absurd gives
@@ -40,11 +43,7 @@ pub job_writes : (words : List (List ℕ)) (held : Option Held) (before after : 
 job_writes words held before after old new job Done text n read gives put counts = record { text = text; fits = n; gives = (job, read, gives); put = put; counts = counts }
 job_writes words held before after old new job (Fails said) text n read gives put counts = record { text = text; fits = n; gives = (job, read, gives); put = put; counts = counts }
 job_writes words held before after old new job (Words fault) text n read gives put counts = absurd gives
-job_writes words held before after old new job (Refused refusal) text n read gives put counts = (
-  (job, read, (gives.0, refl, refl)),
-  put ∙ ap (with_more before) gives.1 ∙ sym (with_more-nil before),
-  no_more old new n gives.2 counts,
-)
+job_writes words held before after old new job (Refused refusal) text n read gives put counts = absurd gives
 job_writes words held before after old new job ReadFault text n read gives put counts = absurd gives
 job_writes words held before after old new job WriteFault text n read gives put counts = absurd gives
 job_writes words held before after old new job Memory text n read gives put counts = absurd gives
@@ -70,14 +69,14 @@ job_puts held job Memory text n before after gives e = e
 
 -- a job that stopped writes nothing
 pub stop_writes : (words : List (List ℕ)) (held : Option Held) (before : Option (List ℕ)) (old new : Counts) (job : Job) (answer : Answer) (fb fa : ℕ)
-    → WordsRead words (Ok job) → Stops fb fa (IsRefused held job) answer → CountsStopped held job old new answer → Writes words held before before old new answer
-stop_writes words held before old new job Done fb fa read stops counts = absurd stops
-stop_writes words held before old new job (Fails said) fb fa read stops counts = absurd stops
-stop_writes words held before old new job (Words fault) fb fa read stops counts = absurd stops
-stop_writes words held before old new job (Refused refusal) fb fa read stops counts = ((job, read, (stops.0, refl, refl)), refl, counts)
-stop_writes words held before old new job ReadFault fb fa read stops counts = (refl, counts)
-stop_writes words held before old new job WriteFault fb fa read stops counts = absurd stops
-stop_writes words held before old new job Memory fb fa read stops counts = (refl, inr (job, read, counts))
+    → WordsRead words (Ok job) → Stops fb fa (IsRefused held job) answer → (answer ≡ ReadFault → Fetches job) → CountsStopped held job old new answer → Writes words held before before old new answer
+stop_writes words held before old new job Done fb fa read stops fetches counts = absurd stops
+stop_writes words held before old new job (Fails said) fb fa read stops fetches counts = absurd stops
+stop_writes words held before old new job (Words fault) fb fa read stops fetches counts = absurd stops
+stop_writes words held before old new job (Refused refusal) fb fa read stops fetches counts = (((job, read, stops.0), refl, refl), refl, counts)
+stop_writes words held before old new job ReadFault fb fa read stops fetches counts = ((job, read, fetches refl), refl, counts)
+stop_writes words held before old new job WriteFault fb fa read stops fetches counts = absurd stops
+stop_writes words held before old new job Memory fb fa read stops fetches counts = (refl, inr (job, read, counts))
 
 no_fault : (job : Job) (f : WordFault) (r t : Result Job WordFault) → r ≡ Ok job → t ≡ Err f → r ≡ t → ⊥
 no_fault job f r t e h k = cc
@@ -98,7 +97,7 @@ accepted words held job before after old new Done one read none writes = tt
 accepted words held job before after old new (Fails said) one read none writes = tt
 accepted words held job before after old new (Words f) one read none writes = no_fault job f (Ok job) (Err f) refl refl (one (Ok job) (Err f) read writes.0.0)
 accepted words held job before after old new (Refused refusal) one read none writes =
-    none refusal (subst (λ (j : Job). IsRefused held j refusal) (one_job job writes.0.0 (Ok job) (Ok writes.0.0) refl refl (one (Ok job) (Ok writes.0.0) read writes.0.1)) writes.0.2.0)
+    none refusal (subst (λ (j : Job). IsRefused held j refusal) (one_job job writes.0.0.0 (Ok job) (Ok writes.0.0.0) refl refl (one (Ok job) (Ok writes.0.0.0) read writes.0.0.1)) writes.0.0.2)
 accepted words held job before after old new ReadFault one read none writes = tt
 accepted words held job before after old new WriteFault one read none writes = tt
 accepted words held job before after old new Memory one read none writes = tt

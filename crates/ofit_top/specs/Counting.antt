@@ -7,7 +7,7 @@ use Rattle.ofit_words.specs.declared.job.Inputs.{Inputs}
 use Rattle.ofit_words.specs.declared.job.Job.{Job}
 use Rattle.ofit_words.specs.declared.job.Job.TheVariants.{Fit}
 use Rattle.ofit_fit.specs.Counted.{HasComponentCount}
-use Rattle.ofit_fit.specs.Piece.{HasPooledForms}
+use Rattle.ofit_fit.specs.Piece.{IsUnbounded, HasPooledForms}
 use Rattle.ofit_answer.specs.declared.answer.Answer.{Answer}
 use Rattle.ofit_answer.specs.declared.answer.Answer.TheVariants.{Done, Fails, Words, Refused, ReadFault, WriteFault, Memory}
 use Rattle.ofit_answer.specs.declared.answer.Refusal.TheVariants.{NotBuilt}
@@ -23,9 +23,18 @@ pub record CountsWithin (s : Study) (before after : Counts) : Type 0 where
   pub most : (n : ℕ) → HasComponentCount (problem_stated s) n → after.fits ≤ before.fits + n
   pub cuts : after.cuts ≡ before.cuts
 
--- a fit that memory ended counts at most the components of its study, and every other job counts nothing
+-- a fit that memory ended counts at most the components of its study, where it is built, and every other job counts nothing
+pub record HasBegun (held : Option Held) (job : Job) (before after : Counts) : Type 0 where
+  pub inputs : Inputs
+  pub study : Study
+  pub asked : job ≡ Fit inputs
+  pub unbounded : IsUnbounded inputs.settings
+  pub given : StudyGives held inputs (Ok study)
+  pub pooled : HasPooledForms study
+  pub within : CountsWithin study before after
+
 abbrev pub MayCount : Option Held → Job → Counts → Counts → Type 0
-MayCount held job before after = (after ≡ before) ⊎ ((inputs : Inputs) × (study : Study) × (job ≡ Fit inputs) × StudyGives held inputs (Ok study) × CountsWithin study before after)
+MayCount held job before after = (after ≡ before) ⊎ HasBegun held job before after
 
 -- what an answer that isn't a job's own leaves of the tally
 abbrev pub CountsStopped : Option Held → Job → Counts → Counts → Answer → Type 0
@@ -39,7 +48,7 @@ CountsStopped held job before after WriteFault = after ≡ before
 
 -- how the fit of a given study ends without a text: it isn't built, or memory is wanting
 abbrev pub IsFitStopped : Study → Counts → Counts → Answer → Type 0
-IsFitStopped study before after Memory = CountsWithin study before after
+IsFitStopped study before after Memory = (after ≡ before) ⊎ (HasPooledForms study × CountsWithin study before after)
 IsFitStopped study before after Done = ⊥
 IsFitStopped study before after (Fails said) = ⊥
 IsFitStopped study before after (Words fault) = ⊥

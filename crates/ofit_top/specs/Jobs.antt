@@ -1,5 +1,5 @@
 -- What a job answers, and the text and the count of fits that go with it, where neither folder nor sinks fail.
-use Rattle.std.specs.Prelude.{◌≡◌, ◌⊎◌, ℕ, List, [], Option, Ok, Err, IsSome}
+use Rattle.std.specs.Prelude.{◌≡◌, ◌⊎◌, ⊤, ℕ, List, Option, Ok, Err, IsSome}
 use Rattle.ofit_outside.specs.Folder.{Held}
 use Rattle.ofit_num.specs.Fit.{BestValues, LeastBestValues}
 use Rattle.ofit_num.specs.Sheet as num
@@ -99,8 +99,19 @@ HasFailed held (Sample sample) said text fits = ⊥
 abbrev pub JobGives : Option Held → Job → Answer → List ℕ → ℕ → Type 0
 JobGives held job answer.Done text fits = IsDone held job text fits
 JobGives held job (answer.Fails said) text fits = HasFailed held job said text fits
-JobGives held job (answer.Refused refusal) text fits = IsRefused held job refusal × (text ≡ []) × (fits ≡ 0)
+JobGives held job (answer.Refused refusal) text fits = ⊥
 JobGives held job (answer.Words fault) text fits = ⊥
 JobGives held job answer.ReadFault text fits = ⊥
 JobGives held job answer.WriteFault text fits = ⊥
 JobGives held job answer.Memory text fits = ⊥
+
+-- the job fetches files: a fit that its words don't refuse, and each verification
+abbrev pub Fetches : Job → Type 0
+Fetches (Fit inputs) = IsUnbounded inputs.settings
+Fetches (Verify inputs name) = ⊤
+Fetches (Report inputs) = ⊥
+Fetches (Session inputs script) = ⊥
+Fetches (Unimodal table places) = ⊥
+Fetches (VerifyUnimodal table sheet places) = ⊥
+Fetches (Levels k) = ⊥
+Fetches (Sample sample) = ⊥

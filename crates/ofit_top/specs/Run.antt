@@ -1,5 +1,5 @@
 -- What a run answers, writes and counts.
-use Rattle.std.specs.Prelude.{◌≡◌, ◌⊎◌, ℕ, List, [], map, Option, Ok, Err, String, string_bytes}
+use Rattle.std.specs.Prelude.{◌≡◌, ◌⊎◌, ⊤, ℕ, List, [], map, Option, Ok, Err, String, string_bytes}
 use Rattle.std.specs.declared.alloc.Global.{Global}
 use Rattle.ofit_outside.specs.Faults.{Rose}
 use Rattle.ofit_outside.specs.Folder.{Held}
@@ -9,7 +9,7 @@ use Rattle.ofit_words.specs.declared.job.Job.{Job}
 use Rattle.ofit_words.specs.Words.{WordsRead}
 use Rattle.ofit_answer.specs.declared.answer.Answer.{Answer}
 use Rattle.ofit_answer.specs.declared.answer.Answer.TheVariants.{Done, Fails, Words, Refused, ReadFault, WriteFault, Memory}
-use Rattle.ofit_top.specs.Jobs.{JobGives}
+use Rattle.ofit_top.specs.Jobs.{JobGives, IsRefused, Fetches}
 use Rattle.ofit_top.specs.Counting.{counted, MayCount}
 
 -- the bytes of each word
@@ -25,7 +25,7 @@ abbrev pub RunGives : List (List ℕ) → Option Held → Answer → List ℕ �
 RunGives words held (Words fault) text fits = WordsRead words (Err fault) × (text ≡ []) × (fits ≡ 0)
 RunGives words held Done text fits = AskedGives words held Done text fits
 RunGives words held (Fails said) text fits = AskedGives words held (Fails said) text fits
-RunGives words held (Refused refusal) text fits = AskedGives words held (Refused refusal) text fits
+RunGives words held (Refused refusal) text fits = ((job : Job) × WordsRead words (Ok job) × IsRefused held job refusal) × (text ≡ []) × (fits ≡ 0)
 RunGives words held ReadFault text fits = ⊥
 RunGives words held WriteFault text fits = ⊥
 RunGives words held Memory text fits = ⊥
@@ -38,14 +38,29 @@ pub record Wrote (words : List (List ℕ)) (held : Option Held) (before after : 
   pub put : after ≡ with_more before text
   pub counts : new ≡ counted fits old
 
--- a first part of the text came after what was there, and its fits are counted
+-- the answer goes with an output
+abbrev pub IsOutput : Answer → Type 0
+IsOutput Done = ⊤
+IsOutput (Fails said) = ⊤
+IsOutput (Words fault) = ⊥
+IsOutput (Refused refusal) = ⊥
+IsOutput ReadFault = ⊥
+IsOutput WriteFault = ⊥
+IsOutput Memory = ⊥
+
+-- a first part of an output's text came after what was there, and its fits are counted
 pub record WroteInPart (words : List (List ℕ)) (held : Option Held) (before after : Option (List ℕ)) (old new : Counts) : Type 0 where
   pub answer : Answer
+  pub output : IsOutput answer
   pub text : List ℕ
   pub fits : ℕ
   pub gives : RunGives words held answer text fits
   pub put : GainsPrefix before after text
   pub counts : new ≡ counted fits old
+
+-- the words ask for a job that fetches files
+abbrev pub AskToFetch : List (List ℕ) → Type 0
+AskToFetch words = (job : Job) × WordsRead words (Ok job) × Fetches job
 
 -- what is counted where memory was wanting
 abbrev pub MayHaveCounted : List (List ℕ) → Option Held → Counts → Counts → Type 0
@@ -57,7 +72,7 @@ Writes words held before after old new Done = Wrote words held before after old 
 Writes words held before after old new (Fails said) = Wrote words held before after old new (Fails said)
 Writes words held before after old new (Words fault) = RunGives words held (Words fault) [] 0 × (after ≡ before) × (new ≡ old)
 Writes words held before after old new (Refused refusal) = RunGives words held (Refused refusal) [] 0 × (after ≡ before) × (new ≡ old)
-Writes words held before after old new ReadFault = (after ≡ before) × (new ≡ old)
+Writes words held before after old new ReadFault = AskToFetch words × (after ≡ before) × (new ≡ old)
 Writes words held before after old new WriteFault = WroteInPart words held before after old new
 Writes words held before after old new Memory = (after ≡ before) × MayHaveCounted words held old new
 

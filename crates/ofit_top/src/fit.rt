@@ -74,6 +74,7 @@ pub(crate) fn fit_text<F: Folder>(
     requires room { tally.old.fits ≤ 2 ^ 63 }
     ensures fitted { IfOk result (λ text. (n : ℕ) × IsFitted (F.held folder.old) inputs.now text.items n × (tally.new ≡ counted n tally.old)) }
     ensures stops { IfErr result (λ answer. Stops (F.faults folder.old) (F.faults folder.new) (IsFitRefused (F.held folder.old) inputs.now) answer) }
+    ensures fetches { IfErr result (λ answer. answer ≡ Answer.ReadFault → IsUnbounded inputs.now.settings) }
     ensures counts { IfErr result (λ answer. CountsStopped (F.held folder.old) (Fit inputs.now) tally.old tally.new answer) }
     ensures stays { OnOk result (F.faults folder.new ≡ F.faults folder.old) }
     ensures held { F.held folder.new ≡ F.held folder.old }

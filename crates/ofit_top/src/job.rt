@@ -1,7 +1,7 @@
 ghost use Rattle.std.specs.Prelude.{◌≡◌, ◌≤◌, ◌^◌, ℕ, IfOk, IfErr, OnOk};
 ghost use Rattle.ofit_words.specs.Words.{IsJobInLimits};
 ghost use Rattle.ofit_input.specs.Stops.{Stops};
-ghost use Rattle.ofit_top.specs.Jobs.{JobGives, IsRefused};
+ghost use Rattle.ofit_top.specs.Jobs.{JobGives, IsRefused, Fetches};
 ghost use Rattle.ofit_top.specs.Counting.{counted, CountsStopped};
 
 use crate::fit::fit_text;
@@ -25,6 +25,7 @@ pub(crate) fn do_job<F: Folder>(
     requires room { tally.old.fits ≤ 2 ^ 63 }
     ensures gives { IfOk result (λ printed. (n : ℕ) × JobGives (F.held folder.old) job.now printed.answer printed.text.items n × (tally.new ≡ counted n tally.old)) }
     ensures stops { IfErr result (λ answer. Stops (F.faults folder.old) (F.faults folder.new) (IsRefused (F.held folder.old) job.now) answer) }
+    ensures fetches { IfErr result (λ answer. answer ≡ Answer.ReadFault → Fetches job.now) }
     ensures counts { IfErr result (λ answer. CountsStopped (F.held folder.old) job.now tally.old tally.new answer) }
     ensures stays { OnOk result (F.faults folder.new ≡ F.faults folder.old) }
     ensures held { F.held folder.new ≡ F.held folder.old }

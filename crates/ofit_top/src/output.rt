@@ -1,4 +1,4 @@
-ghost use Rattle.std.specs.Prelude.{◌≡◌, ◌≤◌, ℕ, length, take, OnOk, OnErr};
+ghost use Rattle.std.specs.Prelude.{◌≡◌, ◌<◌, ◌≤◌, ℕ, length, take, OnOk, OnErr};
 ghost use Rattle.ofit_outside.specs.Faults.{Rose};
 ghost use Rattle.ofit_outside.specs.Sink.{with_more, GainsPrefix};
 
@@ -13,6 +13,7 @@ pub(crate) fn put_text<O: Sink>(out: &mut O, text: &[u8]) -> Result<(), PutFault
     ensures err { OnErr result (GainsPrefix (O.written out.old) (O.written out.new) text.now) }
     ensures stays { OnOk result (O.faults out.new ≡ O.faults out.old) }
     ensures failed { OnErr result (Rose (O.faults out.old) (O.faults out.new)) }
+    ensures some { OnErr result (0 < length text.now) }
 {
     let mut rest = text;
     while !rest.is_empty() {

@@ -3,6 +3,11 @@ ghost use Rattle.ofit_num.specs.Limits.{all_rows};
 ghost use Rattle.ofit_loss.specs.Rows.{AreFittable};
 ghost use Rattle.ofit_tree.specs.Tree.{IsRootedTree};
 
+mod draws;
+mod plain;
+mod random;
+mod roots;
+
 use crate::{Direction, fit_tree};
 use ofit_loss::{Loss, Median, Squares};
 use ofit_num::{Frac, Groups, Row};
