@@ -5,3 +5,14 @@ pub mod Ranges
 pub mod PatternPairs
 pub mod PairKeys
 pub mod KnownPairs
+pub mod Partings
+pub mod HeaderReadings
+pub mod RecordReadings
+pub mod LimitReadings
+pub mod TableReadings
+pub mod Members
+pub mod NamedPairs
+pub mod PatternReadings
+pub mod PairReadings
+pub mod OrderHeaders
+pub mod OrderReadings

@@ -6,6 +6,7 @@ mod column;
 mod data;
 mod fault;
 mod header;
+mod laws;
 mod pair_set;
 mod pairs;
 mod row;
@@ -14,6 +15,9 @@ mod shape;
 pub use column::Column;
 pub use data::read_data;
 pub use fault::{DataFault, OrderFault};
+pub use laws::{
+    orders_are_read_in_one_way, patterns_are_read_in_one_way, tables_are_read_in_one_way,
+};
 pub use pairs::read_pairs;
 pub use shape::shape_pairs;
 

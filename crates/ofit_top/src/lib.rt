@@ -10,7 +10,7 @@ mod printed;
 mod top;
 mod verify;
 
-pub use laws::accepted_inputs_are_answered;
+pub use laws::{accepted_inputs_are_answered, patterns_are_pooled};
 pub use ofit_answer::{Answer, Refusal, Which, status};
 pub use top::run;
 
