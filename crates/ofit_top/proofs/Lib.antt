@@ -6,3 +6,8 @@ pub mod Patterns
 pub mod Ended
 pub mod Umbrellas
 pub mod RootedTrees
+pub mod Results
+pub mod OneFile
+pub mod OneGiven
+pub mod OneEnd
+pub mod OneRun

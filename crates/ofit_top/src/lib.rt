@@ -10,7 +10,10 @@ mod printed;
 mod top;
 mod verify;
 
-pub use laws::{accepted_inputs_are_answered, patterns_are_pooled};
+pub use laws::{
+    accepted_inputs_are_answered, inputs_are_given_in_one_way, patterns_are_pooled,
+    runs_end_in_one_way,
+};
 pub use ofit_answer::{Answer, Refusal, Which, status};
 pub use top::run;
 
