@@ -3,8 +3,6 @@
 //! and one over the real thing.
 #![tactic(auto)]
 
-#[cfg(test)]
-mod callers;
 mod disk_folder;
 mod folder;
 mod mem_folder;

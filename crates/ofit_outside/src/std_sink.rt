@@ -114,10 +114,4 @@ mod tests {
         assert_eq!(rt; sink.put(b"fghi"), Err(PutFault::Failed));
         assert_eq!(rt; sink.faults, 1);
     }
-
-    #[test]
-    fn puts_into_standard_output(rt: HostRuntime) {
-        let mut sink = StdSink::new(io::writer(&rt));
-        assert_eq!(rt; sink.put(b"ofit_outside\n"), Ok(()));
-    }
 }
