@@ -1,5 +1,5 @@
 -- The text of records that are written.
-use Rattle.std.specs.Prelude.{◌≡◌, ℕ, List, [], ◌∷◌, ◌++◌, Option, Some, None, true, false}
+use Rattle.std.specs.Prelude.{◌≡◌, ℕ, List, [], ◌∷◌, ◌++◌, Bool, true, false}
 use Rattle.std.specs.declared.vec.Vec.{Vec}
 use Rattle.csv.specs.declared.writer.Writer.{Writer}
 use Rattle.csv.specs.declared.writer.WriterBuilder.{WriterBuilder}
@@ -28,10 +28,6 @@ abbrev pub IsBetweenRecords : {A : Type 0} → Writer (Vec ℕ A) → Type 0
 IsBetweenRecords w = (writer_setup w ≡ writer_settings) × (fields_written w ≡ 0) × (has_written w ≡ false)
 
 -- what a writer was given that may have failed: nothing then
-abbrev pub text_of_writer : {A : Type 0} → Option (Writer (Vec ℕ A)) → List ℕ
-text_of_writer None = []
-text_of_writer (Some w) = text_given w
-
-abbrev pub IsWriting : {A : Type 0} → Option (Writer (Vec ℕ A)) → Type 0
-IsWriting None = Unit {0}
-IsWriting (Some w) = IsBetweenRecords w
+abbrev pub text_unless : {A : Type 0} → Bool → Writer (Vec ℕ A) → List ℕ
+text_unless true w = []
+text_unless false w = text_given w

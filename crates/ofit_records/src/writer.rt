@@ -6,21 +6,23 @@ use std::alloc::{AllocError, Global};
 use std::marker::Model;
 
 /// A writer of records into memory, seen as the text that it was given. After want of memory it takes no
-/// more records and gives no text. It holds a buffer of 8 KiB by value: lend it, don't move it.
+/// more records and gives no text. csv's writer holds a buffer of 8 KiB by value, so it stands behind
+/// one allocation.
 #[derive(Drop)]
 pub struct RecordWriter {
-    writer: Option<Writer<Vec<u8>>>,
+    writer: Box<Writer<Vec<u8>>>,
+    has_failed: bool,
 }
 
 impl Model for RecordWriter {
-    ghost use Rattle.std.specs.Prelude.{ℕ, List};
-    ghost use Rattle.ofit_records.specs.Written.{text_of_writer, IsWriting};
+    ghost use Rattle.std.specs.Prelude.{◌≡◌, ℕ, List, false, box_value};
+    ghost use Rattle.ofit_records.specs.Written.{text_unless, IsBetweenRecords};
 
     ghost Value = { List ℕ };
 
-    ghost view = { λ w. text_of_writer w.writer };
+    ghost view = { λ w. text_unless w.has_failed (box_value w.writer) };
 
-    ghost invariant = { λ w. IsWriting w.writer };
+    ghost invariant = { λ w. w.has_failed ≡ false → IsBetweenRecords (box_value w.writer) };
 }
 
 /// Whether csv writes the record.
@@ -34,38 +36,42 @@ fn writes(writer: &mut Writer<Vec<u8>>, fields: &[&[u8]]) -> bool
 
 impl RecordWriter {
     /// A writer that was given nothing.
-    pub fn new(alloc: Global) -> RecordWriter
-        ensures { result ≡ [] }
+    #[inline(never)]
+    pub fn new(alloc: Global) -> Result<RecordWriter, AllocError>
+        ensures { IfOk result (λ writer. writer ≡ []) }
     {
         let writer = WriterBuilder::new()
             .flexible(true)
             .from_writer(Vec::new(alloc));
-        RecordWriter {
-            writer: Some(writer),
-        }
+        Ok(RecordWriter {
+            writer: Box::new(alloc, writer)?,
+            has_failed: false,
+        })
     }
 
     /// Writes a record more. Any error of csv over bytes in memory is answered as want of memory.
     pub fn add_record(&mut self, fields: &[&[u8]]) -> Result<(), AllocError>
         ensures { OnOk result (self.new ≡ self.old ++ record_text (map (λ f. f.now) fields.now)) }
     {
-        let Some(writer) = &mut self.writer else {
+        if self.has_failed {
             return Err(AllocError);
-        };
-        if writes(writer, fields) {
+        }
+        if writes(&mut self.writer, fields) {
             return Ok(());
         }
-        self.writer = None;
+        self.has_failed = true;
         Err(AllocError)
     }
 
     /// The text that the writer was given.
+    #[inline(never)]
     pub fn into_text(self) -> Result<Vec<u8>, AllocError>
         ensures { IfOk result (λ text. text.items ≡ self) }
     {
-        let Some(writer) = self.writer else {
+        if self.has_failed {
             return Err(AllocError);
-        };
+        }
+        let writer = Box::into_inner(self.writer);
         match writer.into_inner() {
             Ok(text) => Ok(text),
             Err(_) => Err(AllocError),

@@ -172,7 +172,7 @@ pub fn write_sheet(alloc: Global, study: &Study, sheet: &Sheet) -> Result<Vec<u8
     requires { FitsCount (length (names_of study.now)) sheet.now }
     ensures { IfOk result (λ text. text.items ≡ sheet_text (names_of study.now) sheet.now) }
 {
-    let mut writer = RecordWriter::new(alloc);
+    let mut writer = RecordWriter::new(alloc)?;
     write_header(&mut writer, sheet)?;
     write_bounds(&mut writer, sheet.settings())?;
     write_size(&mut writer, sheet)?;

@@ -6,7 +6,7 @@ use std::test::Fail;
 /// The records of the bytes, each as its fields joined by `|`, with `;` behind each record.
 fn shown(alloc: Global, bytes: &[u8]) -> Result<Vec<u8>, AllocError> {
     let mut text = Vec::new(alloc);
-    let mut records = Records::new(alloc, bytes);
+    let mut records = Records::new(alloc, bytes)?;
     let mut record = ByteRecord::new(alloc);
     while records.read_next(&mut record)? {
         for i in 0..record.len() {
@@ -49,7 +49,7 @@ fn records_are_read(rt: HostRuntime) -> Result<(), Fail> {
 fn written_records_have_a_text(rt: HostRuntime) -> Result<(), Fail> {
     let first: [&[u8]; 3] = [b"ofit-sheet", b"2", b"-"];
     let second: [&[u8]; 2] = [b"Low, \"dose\"", b"1"];
-    let mut writer = RecordWriter::new(rt.alloc());
+    let mut writer = RecordWriter::new(rt.alloc())?;
     writer.add_record(&first)?;
     writer.add_record(&second)?;
     let text = writer.into_text()?;

@@ -9,7 +9,7 @@ use Rattle.ofit_sheet.proofs.write.write_sheet.Goals as goal
 
 pub returns : goal.returns
 returns c =
-    let first : c.write_header.new.writer ≡ record_text (header_fields c.args.sheet.now) = c.in_ok-write_header.ensures ∙ ap (λ (t : List ℕ). t ++ record_text (header_fields c.args.sheet.now)) c.new-writer.ensures in
+    let first : c.write_header.new.writer ≡ record_text (header_fields c.args.sheet.now) = c.in_ok-write_header.ensures ∙ ap (λ (t : List ℕ). t ++ record_text (header_fields c.args.sheet.now)) c.in_ok-writer.ensures in
     let second : c.write_bounds.new.writer ≡ c.write_header.new.writer ++ record_text (bounds_fields c.args.sheet.now.settings) =
     c.in_ok-write_bounds.ensures ∙ ap (λ (t : Settings). c.write_header.new.writer ++ record_text (bounds_fields t)) c.settings.ensures.value in
     IfOk-weaker c.into_text.result (λ text. text.items ≡ c.add_record.new.self) (λ text. text.items ≡ sheet_text (names_of c.args.study.now) c.args.sheet.now)
