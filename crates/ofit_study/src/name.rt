@@ -1,4 +1,5 @@
 ghost use Rattle.std.specs.Prelude.{◌≡◌, ◌↔◌, ◌≤◌, ◌≢◌, IsTrue, IfOk, MatchOption, All, IsUtf8};
+ghost use Rattle.std.specs.Str.{IsAscii};
 ghost use Rattle.ofit_study.specs.Name.{IsName, IsNameByte};
 
 use std::alloc::{AllocError, Global};
@@ -36,10 +37,17 @@ fn are_name_bytes(bytes: &[u8]) -> bool
     bytes.iter().all(|byte| is_name_byte(*byte))
 }
 
+/// Whether each byte is one of ASCII, which most names are made of.
+fn is_plain(bytes: &[u8]) -> bool
+    ensures { IsTrue result → IsAscii bytes.now }
+{
+    bytes.iter().all(|byte| *byte < 0x80)
+}
+
 fn is_text(bytes: &[u8]) -> bool
     ensures { IsTrue result ↔ IsUtf8 bytes.now }
 {
-    str::from_utf8(bytes).is_ok()
+    is_plain(bytes) || str::from_utf8(bytes).is_ok()
 }
 
 /// Whether the bytes are a name: 1 to 64 bytes of UTF-8, none below 0x20 and none 0x7F. Time linear in

@@ -21,7 +21,7 @@ impl Model for Names {
 }
 
 impl Names {
-    ghost use Rattle.std.specs.Prelude.{◌≡◌, ◌≢◌, ◌+◌, ◌-◌, ◌<◌, ◌^◌, [], ◌∷◌, ◌++◌, length, All, IfOk, OnOk, OnErr, MatchOption, slice_get, Some};
+    ghost use Rattle.std.specs.Prelude.{◌≡◌, ◌≢◌, ◌+◌, ◌-◌, ◌<◌, ◌^◌, [], ◌∷◌, ◌++◌, length, All, IfOk, OnOk, OnErr, IsTrue, MatchOption, slice_get, Some};
     ghost use Rattle.ofit_study.specs.Kept.{name_at};
     ghost use Rattle.ofit_study.specs.PairOrder.{pair_order};
 
@@ -59,6 +59,29 @@ impl Names {
             Some(place) => Some(place as u32),
             None => None,
         }
+    }
+
+    /// Whether the name stands at the place.
+    fn is_at(&self, place: u32, name: &[u8]) -> bool
+        ensures { IsTrue result → slice_get self.now place ≡ Some name.now }
+    {
+        place < self.count() && self.at(place) == name
+    }
+
+    /// The place of a name. It is found without hashing where it is the guess or the one behind it, as in
+    /// a table whose rows stand group by group or go round the groups.
+    pub(crate) fn place_near(&self, guess: u32, name: &[u8]) -> Option<u32>
+        ensures { MatchOption result (All (λ known. known ≢ name.now) self.now)
+            (λ place. slice_get self.now place ≡ Some name.now) }
+    {
+        let next = guess.saturating_add(1);
+        if self.is_at(guess, name) {
+            return Some(guess);
+        }
+        if self.is_at(next, name) {
+            return Some(next);
+        }
+        self.place_of(name)
     }
 
     /// Puts a new name after the others.
