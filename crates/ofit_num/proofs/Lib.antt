@@ -31,6 +31,7 @@ pub mod Absolute
 pub mod Squared
 pub mod Runs
 pub mod Scaled
+mod ShortDecimals
 pub mod DecimalTexts
 pub mod Fixed
 pub mod Floor

@@ -4,7 +4,7 @@ use Rattle.std.proofs.lemmas.Int.{to_z-of_z}
 use Rattle.ofit_num.specs.declared.decimal.NumFault.TheVariants.{TooFine, TooLarge}
 use Rattle.ofit_num.proofs.DecimalTexts.{fine_from, large_from}
 use Rattle.ofit_num.proofs.Spelled.{same_fault}
-use Rattle.ofit_num.proofs.decimal.units_of.Goals as goal
+use Rattle.ofit_num.proofs.decimal.units_by_parts.Goals as goal
 
 pub returns-in-None-clause-not_number : goal.returns-in-None-clause-not_number
 returns-in-None-clause-not_number c = λ e n. c.in-None.ensures.no n.negative n.m n.f n.x n.decimal
