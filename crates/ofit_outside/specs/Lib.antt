@@ -3,3 +3,4 @@ pub mod Folder
 pub mod MemFolder
 pub mod MemSink
 pub mod Sink
+pub mod Streams
