@@ -6,4 +6,3 @@ pub mod Counted
 pub mod Recurrence
 pub mod Rows
 pub mod Lines
-pub mod Records
