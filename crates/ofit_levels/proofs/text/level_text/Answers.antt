@@ -1,7 +1,7 @@
 use Rattle.std.proofs.Common.{◌≡◌, ◌∙◌, arith}
 use Rattle.std.proofs.lemmas.Result.{IfOk-weaker}
 use Rattle.ofit_levels.specs.LevelText.{level_table}
-use Rattle.ofit_levels.proofs.Lines.{all_left, one_less, none_left}
+use Rattle.ofit_levels.proofs.TextLeft.{all_left, one_less, none_left}
 use Rattle.ofit_levels.proofs.text.level_text.Goals as goal
 
 pub loop-place-init : goal.loop-place-init
