@@ -7,9 +7,11 @@ mod disk_folder;
 mod folder;
 mod mem_folder;
 mod mem_sink;
+mod reading;
 mod schedule;
 mod sink;
 mod std_sink;
+mod writing;
 
 pub use disk_folder::DiskFolder;
 pub use folder::{FetchFault, Folder};
