@@ -1,5 +1,6 @@
-use Rattle.ofit_chain.specs.Covers.{Covers}
-use Rattle.ofit_chain.proofs.fit.blocks_of.Given as goal
+use Rattle.std.proofs.Common.{take}
+use Rattle.ofit_chain.specs.Stacked.{IsStack}
+use Rattle.ofit_chain.proofs.fit.fit_chain.Given as goal
 
 abbrev pub invariant-loop-place : goal.invariant-loop-place
-invariant-loop-place g l = Covers g.L.Loss.IsPoolOf g.L.Loss.meaning g.L.Loss.STRICT l.groups l.place l.stack.items
+invariant-loop-place g l = IsStack g.L.Loss.IsPoolOf g.L.Loss.meaning g.L.Loss.STRICT (take l.place l.groups) l.stack.blocks.items
