@@ -3,5 +3,7 @@ pub mod Laws
 pub mod Pool
 pub mod Least
 pub mod Median
+pub mod Quantile
 pub mod Squares
 pub mod TableLaws
+pub mod Entries

@@ -1,5 +1,5 @@
 use Rattle.ofit_loss.proofs.ProblemLaws.{fittable-front, fittable-back}
-use Rattle.ofit_loss.proofs.tests.joined_least_of.Goals as goal
+use Rattle.ofit_loss.proofs.tests.least_of.Goals as goal
 
 pub pool_of-requires : goal.pool_of-requires
 pool_of-requires g c = fittable-front c.args.front.now c.args.back.now c.requires.fittable

@@ -1,0 +1,11 @@
+use Rattle.std.proofs.Common.{◌≡◌, ℕ, take}
+use Rattle.std.specs.Prelude.{sum_by}
+use Rattle.ofit_loss.specs.declared.entry.Entry.{Entry}
+use Rattle.ofit_loss.specs.Quantile.{IsSplit, pool_sum, entry_of}
+use Rattle.ofit_loss.proofs.quantile.QuantilePool.of.Given as goal
+
+abbrev pub invariant-loop-row : goal.invariant-loop-row
+invariant-loop-row l = record {
+  split : IsSplit l.pool;
+  same : (f : Entry → ℕ) → pool_sum f l.pool ≡ sum_by (λ r. f (entry_of r)) (take l.row-index l.rows);
+}
