@@ -247,6 +247,10 @@ module _ (m : Meaning) (s : Problem) (places : All (λ e. (e.0 < s.count) × (e.
       pub cut_divided : AreDivided m s label → AreDivided m s (relabelled label chosen top)
       cut_divided divided i d l = pair_divided (slice_index_or s.pairs i d) (places i d l).0 (places i d l).1 (cut.split.closed i d l) (divided i d l)
 
+    -- Where the greatest upper set has no place, no upper set of the piece gains.
+    pub none_gains : (piece chosen : ℕ → Bool) (c : Fraction) → 0 < c.den → IsGreatestUpper s piece (least_at m s c) chosen → ((g : ℕ) → g < s.count → chosen g ≡ false) → HasCeiling m s piece c
+    none_gains piece chosen c l best none = record { den = l; ceiling = λ a inside up. omega (arith, ints, best.greatest a inside up, set_sum-none chosen (least_at m s c) s.count none) }
+
     -- The two kinds of cuts.
     module _ (piece chosen rest : ℕ → Bool) (c : Fraction) (split : IsSplit s piece chosen rest) (pooled : IsPooled m s piece c) where
       pub first_cut : IsGreatestUpper s piece (least_at m s c) chosen → IsSmallest s piece (least_at m s c) chosen → IsCut m s piece chosen rest c
@@ -274,10 +278,6 @@ module _ (m : Meaning) (s : Problem) (places : All (λ e. (e.0 < s.count) × (e.
         alone : (x y : Bool) → y ≡ false → (x || y) ≡ x
         alone true y e = refl
         alone false y e = e
-
-      -- where it has none, no upper set of the piece gains
-      pub first_none : IsGreatestUpper s piece (least_at m s c) chosen → ((g : ℕ) → g < s.count → chosen g ≡ false) → HasCeiling m s piece c
-      first_none best none = record { den = pooled.den; ceiling = λ a inside up. omega (arith, ints, best.greatest a inside up, set_sum-none chosen (least_at m s c) s.count none) }
 
     module _ (strict : Bool) (piece chosen rest : ℕ → Bool) (c : Fraction) (split : IsSplit s piece chosen rest) (pooled : IsPooled m s piece c) (ceiling : HasCeiling m s piece c)
         (best : IsGreatestUpper s piece (greatest_at m s c) chosen) (tie : IsTieOf strict s piece (greatest_at m s c) chosen) (strictly : strict ≡ true → FallStrictly m s) where
