@@ -43,3 +43,5 @@ pub mod Moved
 pub mod BestSettled
 pub mod TableSettled
 pub mod FractionOrder
+pub mod Levels
+pub mod Division

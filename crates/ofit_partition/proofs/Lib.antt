@@ -1,0 +1,9 @@
+pub mod Places
+pub mod Uppers
+pub mod Pools
+pub mod Splits
+pub mod Settles
+pub mod Cutting
+pub mod Steps
+pub mod Works
+pub mod Ending
