@@ -55,7 +55,7 @@ pub fn level_text(alloc: Global, k: u32) -> Result<Vec<u8>, AllocError>
 {
     let all = ordering_count(k);
     let counts = levels(k);
-    let mut writer = RecordWriter::new(alloc);
+    let mut writer = RecordWriter::new(alloc)?;
     write_header(&mut writer, k, all)?;
     for place in 0..k {
         write_level(&mut writer, place + 1, counts[place as usize], all)?;

@@ -23,7 +23,8 @@ impl Model for Names {
 impl Names {
     ghost use Rattle.std.specs.Prelude.{◌≡◌, ◌≢◌, ◌+◌, ◌-◌, ◌<◌, ◌^◌, [], ◌∷◌, ◌++◌, length, All, IfOk, OnOk, OnErr, IsTrue, MatchOption, slice_get, Some};
     ghost use Rattle.ofit_study.specs.Kept.{name_at};
-    ghost use Rattle.ofit_study.specs.PairOrder.{pair_order};
+    ghost use Rattle.ofit_study.specs.PairOrder.{pair_order, text_order};
+    ghost use Rattle.std.specs.Ordering.{nat_cmp, ordering_then};
 
     /// No names. It takes no memory.
     pub(crate) fn new(alloc: Global) -> Names
@@ -112,10 +113,19 @@ impl Names {
     pub(crate) fn compare_pairs(&self, first: (u32, u32), second: (u32, u32)) -> Ordering
         ensures { result ≡ pair_order self.now first second }
     {
-        let by_low = self.text(first.0).cmp(self.text(second.0));
+        match self.text(first.0).cmp(self.text(second.0)) {
+            Ordering::Less => Ordering::Less,
+            Ordering::Greater => Ordering::Greater,
+            Ordering::Equal => self.compare_highs(first, second),
+        }
+    }
+
+    /// The order of two pairs whose low names are equal.
+    fn compare_highs(&self, first: (u32, u32), second: (u32, u32)) -> Ordering
+        ensures { result ≡ ordering_then (text_order (name_at self.now first.1) (name_at self.now second.1)) (ordering_then (nat_cmp first.0 second.0) (nat_cmp first.1 second.1)) }
+    {
         let by_high = self.text(first.1).cmp(self.text(second.1));
-        let by_places = first.0.cmp(&second.0).then(first.1.cmp(&second.1));
-        by_low.then(by_high).then(by_places)
+        by_high.then(first.0.cmp(&second.0).then(first.1.cmp(&second.1)))
     }
 
     /// The names once more.

@@ -5,7 +5,7 @@ use Rattle.ofit_levels.proofs.TextLeft.{all_left, one_less, none_left}
 use Rattle.ofit_levels.proofs.text.level_text.Goals as goal
 
 pub loop-place-init : goal.loop-place-init
-loop-place-init c = all_left c.args.k _ _ _ c.ordering_count-all.ensures c.new-writer.ensures c.in_ok-write_header.ensures
+loop-place-init c = all_left c.args.k _ _ _ c.ordering_count-all.ensures c.in_ok-writer.ensures c.in_ok-write_header.ensures
 
 pub loop-place-preserved : goal.loop-place-preserved
 loop-place-preserved c =
