@@ -15,6 +15,7 @@ pub mod Law
 pub mod Sets
 pub mod Settled
 pub mod Block
+pub mod Steep
 pub mod Sheet
 pub mod Verdict
 pub mod DecimalText
