@@ -16,7 +16,7 @@ use Rattle.ofit_loss.specs.Least.{IsLeastMinimiser}
 use Rattle.ofit_loss.proofs.ProblemLaws.{group_fittable}
 use Rattle.ofit_loss.proofs.SquaresLeast.{weighs}
 use Rattle.ofit_chain.specs.declared.block.Block.{Block}
-use Rattle.ofit_chain.specs.Merge.{CanMerge}
+use Rattle.ofit_loss.specs.Pool.{CanMerge}
 use Rattle.ofit_chain.specs.Covers.{Covers}
 use Rattle.ofit_chain.specs.Stacked.{IsStack}
 use Rattle.ofit_chain.proofs.Rows.{fittable_in}

@@ -2,7 +2,7 @@ ghost use Rattle.std.specs.Prelude.{◌≡◌, ◌+◌, ◌<◌, ◌^◌, List, 
 ghost use Rattle.ofit_num.specs.declared.row.Row.{Row};
 ghost use Rattle.ofit_loss.specs.Rows.{AreFittable};
 ghost use Rattle.ofit_loss.specs.Least.{IsLeastMinimiser};
-ghost use Rattle.ofit_chain.specs.Merge.{CanMerge};
+ghost use Rattle.ofit_loss.specs.Pool.{CanMerge};
 
 use ofit_loss::Loss;
 use ofit_num::{Frac, Row};

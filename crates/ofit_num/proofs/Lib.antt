@@ -26,6 +26,9 @@ pub mod Pieces
 pub mod Cuts
 pub mod Recursion
 pub mod Strict
+pub mod Parts
+pub mod Falls
+pub mod Values
 pub mod Blocks
 pub mod Absolute
 pub mod Squared

@@ -1,8 +1,8 @@
 -- sums of ends over sets of places, at one value and at another
-use Rattle.std.proofs.Common.{◌≡◌, ℕ, zero, suc, ◌-◌, ◌^◌, ◌<◌, refl, sym, ap, subst, ◌∙◌, arith, cond, Bool, true, false, ◌||◌, ◌&&◌, not, ◌⊎◌, inl, inr}
+use Rattle.std.proofs.Common.{◌≡◌, ℕ, zero, suc, ◌-◌, ◌^◌, ◌<◌, refl, arith, cond, Bool, true, false, ◌||◌, ◌&&◌, not}
 use Rattle.std.proofs.lemmas.Int.{ints, by_lt_z}
 use Rattle.std.proofs.lemmas.Bool.{both_ways}
-use Rattle.std.specs.Prelude.{ℤ, pos, ◌+ℤ◌, ◌*ℤ◌, ◌≤ℤ◌, ◌<ℤ◌, slice_index_or}
+use Rattle.std.specs.Prelude.{ℤ, pos, ◌+ℤ◌, ◌*ℤ◌, ◌≤ℤ◌, slice_index_or}
 use Rattle.ofit_num.specs.Problem.{Problem}
 use Rattle.ofit_num.specs.Meaning.{Meaning}
 use Rattle.ofit_num.specs.Fraction.{Fraction, AtMost, Below}
@@ -43,11 +43,11 @@ pub cost_more : (strict : Bool) (x y : ℤ) → IsCost strict x → x ≤ℤ y �
 cost_more true x y h l = omega (arith, ints)
 cost_more false x y h l = omega (arith, ints)
 
-cost_times : (strict : Bool) (x : ℤ) (k : ℕ) → 0 < k → IsCost strict x → IsCost strict (x *ℤ pos k)
+pub cost_times : (strict : Bool) (x : ℤ) (k : ℕ) → 0 < k → IsCost strict x → IsCost strict (x *ℤ pos k)
 cost_times true x k l h = omega (arith, ints, mul_pos (pos 0) x k h, zero_mul_ℤ (pos k))
 cost_times false x k l h = omega (arith, ints, mul_strict (pos 0) x k h l, zero_mul_ℤ (pos k))
 
-cost_of_times : (strict : Bool) (x : ℤ) (k : ℕ) → 0 < k → IsCost strict (x *ℤ pos k) → IsCost strict x
+pub cost_of_times : (strict : Bool) (x : ℤ) (k : ℕ) → 0 < k → IsCost strict (x *ℤ pos k) → IsCost strict x
 cost_of_times true x k l h = not_below x k l h
 cost_of_times false x k l h = above_zero x k l h
 
@@ -97,13 +97,17 @@ no_rest s piece a inside none g l = go (piece g) (a g) refl refl where
 
 module _ (m : Meaning) (s : Problem) (law : HasFallingSpans m s) where
   -- greatest ends fall too, and stay above the least ends of greater values
-  greatest_falls : (a : ℕ → Bool) (c b : Fraction) → 0 < c.den → 0 < b.den → AtMost c b
+  pub greatest_falls : (a : ℕ → Bool) (c b : Fraction) → 0 < c.den → 0 < b.den → AtMost c b
       → (set_sum a (greatest_at m s b) s.count *ℤ pos (c.den ^ (m.degree - 1))) ≤ℤ (set_sum a (greatest_at m s c) s.count *ℤ pos (b.den ^ (m.degree - 1)))
   greatest_falls a c b lc lb h = set_sum-le a (greatest_at m s b) (greatest_at m s c) (c.den ^ (m.degree - 1)) (b.den ^ (m.degree - 1)) s.count each where
     each : (g : ℕ) → g < s.count → (greatest_at m s b g *ℤ pos (c.den ^ (m.degree - 1))) ≤ℤ (greatest_at m s c g *ℤ pos (b.den ^ (m.degree - 1)))
     each g l = by_lt_z (c.num *ℤ pos b.den) (b.num *ℤ pos c.den)
         (λ below. omega (arith, ints, law.falls g l c b lc lb below, mul_pos (least_at m s c g) (greatest_at m s c g) (b.den ^ (m.degree - 1)) (law.ordered g l c lc)))
         (λ k. omega (arith, ints, law.greatest g l c b lc lb (omega (arith, ints))))
+
+  pub least_over_greatest : (a : ℕ → Bool) (c b : Fraction) → 0 < c.den → 0 < b.den → Below c b
+      → (set_sum a (greatest_at m s b) s.count *ℤ pos (c.den ^ (m.degree - 1))) ≤ℤ (set_sum a (least_at m s c) s.count *ℤ pos (b.den ^ (m.degree - 1)))
+  least_over_greatest a c b lc lb h = set_sum-le a (greatest_at m s b) (least_at m s c) (c.den ^ (m.degree - 1)) (b.den ^ (m.degree - 1)) s.count (λ g l. law.falls g l c b lc lb h)
 
   -- a cost at a greater value is one at a smaller value
   pub cost_falls : (strict : Bool) (a : ℕ → Bool) (c b : Fraction) → 0 < c.den → 0 < b.den → AtMost c b → IsCost strict (set_sum a (greatest_at m s b) s.count) → IsCost strict (set_sum a (greatest_at m s c) s.count)
@@ -121,7 +125,7 @@ module _ (m : Meaning) (s : Problem) (law : HasFallingSpans m s) where
       (omega (
         arith,
         ints,
-        set_sum-le a (greatest_at m s b) (least_at m s c) (c.den ^ (m.degree - 1)) (b.den ^ (m.degree - 1)) s.count (λ g l. law.falls g l c b lc lb h),
+        least_over_greatest a c b lc lb h,
         mul_pos _ (pos 0) (b.den ^ (m.degree - 1)) k,
         zero_mul_ℤ (pos (b.den ^ (m.degree - 1))),
       ))
