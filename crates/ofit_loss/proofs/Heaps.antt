@@ -9,16 +9,17 @@ use Rattle.std.proofs.lemmas.List.Sorted.{All-permutation, sum_by_pushed}
 use Rattle.std.specs.Prelude.{ℤ, ◌≤ℤ◌, ◌<ℤ◌, All, sum_by, IsTrue}
 use Rattle.std.specs.BinaryHeap.{IsUpperBound}
 use Rattle.std.specs.List.Sorted.{IsPermutation}
-use Rattle.std.specs.Ordering.{int_cmp, nat_cmp, is_lt, ordering_then, MatchOrdering}
+use Rattle.std.specs.Ordering.{int_cmp, is_lt, MatchOrdering}
 use Rattle.std.specs.declared.cmp.Ordering.{Ordering}
 use Rattle.std.specs.declared.cmp.Ordering.TheVariants.{Less, Equal, Greater}
 use Rattle.std.specs.declared.cmp.Reverse.{Reverse}
 use Rattle.ofit_loss.specs.declared.entry.Entry.{Entry}
-use Rattle.ofit_loss.specs.Quantile.{entry_cmp, entry_under, AreApart}
+use Rattle.ofit_loss.specs.Entry.{entry_cmp}
+use Rattle.ofit_loss.specs.Quantile.{entry_under, AreApart}
 
 not_less : (x y : Entry) → is_lt (entry_cmp x y) ≡ false → y.value ≤ℤ x.value
 not_less x y h = go (int_cmp x.value y.value) (int_ranked x.value y.value (int_cmp x.value y.value) refl) h where
-  go : (o : Ordering) → MatchOrdering o (x.value <ℤ y.value) (x.value ≡ y.value) (y.value <ℤ x.value) → is_lt (ordering_then o (nat_cmp x.weight y.weight)) ≡ false → y.value ≤ℤ x.value
+  go : (o : Ordering) → MatchOrdering o (x.value <ℤ y.value) (x.value ≡ y.value) (y.value <ℤ x.value) → is_lt o ≡ false → y.value ≤ℤ x.value
   go Less l e = absurd (cc)
   go Equal l e = omega (arith, ints, l)
   go Greater l e = omega (arith, ints, l)
@@ -91,6 +92,10 @@ under_top (y ∷ ys) e some is top = All-weaker (λ (x : Entry). x.value ≤ℤ 
 pub above_low : (low : List Entry) (high : List (Reverse Entry)) (r : Reverse Entry) (v : ℤ) → 0 < length high → r ≡ get_or high 0 r → AreApart low high → r.0.value <ℤ v → All (λ x. x.value ≤ℤ v) low
 above_low low high r v some is apart l = All-weaker (λ (x : Entry). x.value ≤ℤ r.0.value) (λ x. x.value ≤ℤ v) (λ x h. omega (arith, ints, h, l)) low
     (subst (λ (t : Reverse Entry). All (λ x. x.value ≤ℤ t.0.value) low) (sym is) (All-get_or (λ (y : Reverse Entry). All (λ x. x.value ≤ℤ y.0.value) low) high 0 r some apart))
+
+-- as does one above its top
+pub above_top : (low : List Entry) (e : Entry) (v : ℤ) → e.value <ℤ v → IsUpperBound entry_cmp e low → All (λ x. x.value ≤ℤ v) low
+above_top low e v l top = All-weaker (λ (x : Entry). x.value ≤ℤ e.value) (λ x. x.value ≤ℤ v) (λ x h. omega (arith, ints, h, l)) low (at_most_top e low top)
 
 -- and one at most there below the upper side
 pub below_high : (high : List (Reverse Entry)) (r : Reverse Entry) (v : ℤ) → v ≤ℤ r.0.value → IsUpperBound (λ a b. entry_cmp b.0 a.0) r high → All (λ y. v ≤ℤ y.0.value) high

@@ -14,7 +14,8 @@ use Rattle.ofit_num.specs.declared.row.Row.{Row}
 use Rattle.ofit_num.specs.Limits.{IsRowWithinLimits, total_weight}
 use Rattle.ofit_loss.specs.declared.entry.Entry.{Entry}
 use Rattle.ofit_loss.specs.declared.quantile.QuantilePool.{QuantilePool}
-use Rattle.ofit_loss.specs.Quantile.{IsQuantile, IsQuantilePool, HasQuantile, entry_cmp, entry_of, entry_under, low_sum}
+use Rattle.ofit_loss.specs.Entry.{entry_cmp, entry_of}
+use Rattle.ofit_loss.specs.Quantile.{IsQuantile, IsQuantilePool, HasQuantile, entry_under, low_sum}
 use Rattle.ofit_loss.proofs.SquaresLeast.{weighs}
 use Rattle.ofit_loss.proofs.Heaps.{at_most_top, none_under}
 

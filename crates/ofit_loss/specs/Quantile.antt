@@ -1,13 +1,13 @@
 -- Rows around their quantile, and the quantile itself.
 use Rattle.std.specs.Prelude.{◌≡◌, ℕ, ◌+◌, ◌*◌, ◌<◌, ◌≤◌, List, All, cond, sum_by, ℤ, ◌≤ℤ◌}
 use Rattle.std.specs.BinaryHeap.{heap_items, IsHeap}
-use Rattle.std.specs.Ordering.{int_cmp, nat_cmp, is_lt, is_gt, ordering_then}
-use Rattle.std.specs.declared.cmp.Ordering.{Ordering}
+use Rattle.std.specs.Ordering.{int_cmp, is_lt, is_gt}
 use Rattle.std.specs.declared.cmp.Reverse.{Reverse}
 use Rattle.ofit_num.specs.declared.row.Row.{Row}
 use Rattle.ofit_num.specs.Limits.{total_weight}
 use Rattle.ofit_loss.specs.declared.entry.Entry.{Entry}
 use Rattle.ofit_loss.specs.declared.quantile.QuantilePool.{QuantilePool}
+use Rattle.ofit_loss.specs.Entry.{entry_cmp, entry_of}
 use Rattle.ofit_loss.specs.Pool.{IsFilled}
 
 -- the weight of the rows below a value, and of those at most there
@@ -21,14 +21,6 @@ weight_upto v rows = sum_by (λ r. cond (is_gt (int_cmp r.value v)) 0 r.weight) 
 pub record IsQuantile (above below : ℕ) (rows : List Row) (v : ℤ) : Type 0 where
   pub reached : above * total_weight rows ≤ (above + below) * weight_upto v rows
   pub least : (above + below) * weight_under v rows < above * total_weight rows
-
--- the order of a pool's rows: by values, and at equal values by weights
-abbrev pub entry_cmp : Entry → Entry → Ordering
-entry_cmp x y = ordering_then (int_cmp x.value y.value) (nat_cmp x.weight y.weight)
-
--- a row as a pool keeps it
-abbrev pub entry_of : Row → Entry
-entry_of r = record { value = r.value; weight = r.weight }
 
 -- a sum over the rows of the lower side, of the upper side, and of both
 abbrev pub low_sum : (Entry → ℕ) → QuantilePool → ℕ

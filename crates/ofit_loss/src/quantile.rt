@@ -1,7 +1,7 @@
 ghost use Rattle.std.specs.Prelude.{◌≡◌, ℕ, ◌+◌, ◌*◌, ◌^◌, ◌<◌, ◌≤◌, ◌≤ℤ◌, ◌↔◌, List, All, sum_by, ◌++◌, IsTrue, IfOk, OnOk, false, unsigned_abs};
 ghost use Rattle.std.specs.BinaryHeap.{heap_items, heap_len};
 ghost use Rattle.ofit_num.specs.declared.row.Row.{Row};
-ghost use Rattle.ofit_num.specs.Limits.{AreWithinLimits};
+ghost use Rattle.ofit_num.specs.Limits.{AreWithinLimits, total_weight};
 ghost use Rattle.ofit_loss.specs.declared.entry.Entry.{Entry};
 ghost use Rattle.ofit_loss.specs.Pool.{CanJoin};
 
@@ -32,6 +32,7 @@ pub struct QuantilePool {
 }
 
 impl QuantilePool {
+    ghost use Rattle.ofit_loss.specs.Entry.{entry_of};
     ghost use Rattle.ofit_loss.specs.Quantile.{IsQuantile, IsSplit, IsLeastShare, IsBalanced, IsQuantilePool, HasQuantile, AreFactors, entry_under, low_sum, pool_sum};
 
     /// The pool of the rows.
@@ -46,12 +47,9 @@ impl QuantilePool {
             low_weight: 0,
             weight: 0,
         };
-        for row in rows {
-            pool.insert(Entry {
-                value: row.value,
-                weight: row.weight,
-            })?;
-        }
+        let (front, back) = rows.split_at(rows.len() / 2);
+        pool.insert_rows(back)?;
+        pool.insert_rows(front)?;
         pool.balance(factors)?;
         Ok(pool)
     }
@@ -100,6 +98,22 @@ impl QuantilePool {
         Ok(self)
     }
 
+    /// Puts in the rows.
+    fn insert_rows(&mut self, rows: &[Row]) -> Result<(), AllocError>
+        requires split { IsSplit self.old }
+        requires weight { self.old.weight + total_weight rows.now ≤ 10 ^ 10 }
+        ensures split { OnOk result (IsSplit self.new) }
+        ensures rows { OnOk result ((f : Entry → ℕ) → pool_sum f self.new ≡ pool_sum f self.old + sum_by (λ r. f (entry_of r)) rows.now) }
+    {
+        for row in rows {
+            self.insert(Entry {
+                value: row.value,
+                weight: row.weight,
+            })?;
+        }
+        Ok(())
+    }
+
     /// Puts in rows of another pool's lower side.
     fn insert_low(&mut self, entries: &[Entry]) -> Result<(), AllocError>
         requires split { IsSplit self.old }
@@ -144,14 +158,35 @@ impl QuantilePool {
         Ok(())
     }
 
-    /// Whether the row lies above the least one of the upper side.
+    /// Whether the row goes to the upper side: where it lies above a row there, or above all of the lower
+    /// side.
     fn is_high(&self, entry: Entry) -> bool
+        requires { IsSplit self.now }
+        ensures high { IsTrue result → All (λ x. x.value ≤ℤ entry.value) (heap_items self.now.low) }
+        ensures low { result ≡ false → All (λ y. entry.value ≤ℤ y.0.value) (heap_items self.now.high) }
+    {
+        self.is_above_least(entry) || self.is_above_top(entry)
+    }
+
+    /// Whether the row lies above the least one of the upper side.
+    fn is_above_least(&self, entry: Entry) -> bool
         requires { IsSplit self.now }
         ensures high { IsTrue result → All (λ x. x.value ≤ℤ entry.value) (heap_items self.now.low) }
         ensures low { result ≡ false → All (λ y. entry.value ≤ℤ y.0.value) (heap_items self.now.high) }
     {
         match self.high.peek() {
             Some(least) => least.0.value < entry.value,
+            None => false,
+        }
+    }
+
+    /// Whether the row lies above the greatest one of the lower side.
+    fn is_above_top(&self, entry: Entry) -> bool
+        requires { IsSplit self.now }
+        ensures { IsTrue result → All (λ x. x.value ≤ℤ entry.value) (heap_items self.now.low) }
+    {
+        match self.low.peek() {
+            Some(top) => top.value < entry.value,
             None => false,
         }
     }

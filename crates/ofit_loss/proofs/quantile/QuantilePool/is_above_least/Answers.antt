@@ -2,7 +2,7 @@ use Rattle.std.proofs.Common.{arith, refl}
 use Rattle.std.proofs.lemmas.Int.{ints}
 use Rattle.std.specs.BinaryHeap.{heap_items}
 use Rattle.ofit_loss.proofs.Heaps.{above_low, below_high}
-use Rattle.ofit_loss.proofs.quantile.QuantilePool.is_high.Goals as goal
+use Rattle.ofit_loss.proofs.quantile.QuantilePool.is_above_least.Goals as goal
 
 pub returns-in-Some-clause-high : goal.returns-in-Some-clause-high
 returns-in-Some-clause-high c = λ yes.
