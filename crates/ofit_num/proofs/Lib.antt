@@ -45,3 +45,5 @@ pub mod TableSettled
 pub mod FractionOrder
 pub mod Levels
 pub mod Division
+pub mod Clipped
+pub mod ClippedValues

@@ -16,6 +16,7 @@ pub mod Sets
 pub mod Settled
 pub mod Block
 pub mod Level
+pub mod Clipped
 pub mod Sheet
 pub mod Verdict
 pub mod DecimalText

@@ -1,0 +1,97 @@
+-- Fractions cut off at constant bounds: least best within them, where they are settled without them.
+use Rattle.std.proofs.Common.{◌≡◌, ℕ, zero, suc, ◌<◌, refl, sym, ap, subst, ◌∙◌, arith, cond, Bool, true, false, List, [], ◌∷◌, map, length}
+use Rattle.std.proofs.lemmas.Int.{ints, clamps, by_lt_z}
+use Rattle.std.proofs.lemmas.Bool.{cond_both}
+use Rattle.std.proofs.lemmas.List.{length-map}
+use Rattle.std.specs.Prelude.{ℤ, pos, ◌*ℤ◌, ◌≤ℤ◌, ◌<ℤ◌, Option, Some, None, slice_get, int_lt}
+use Rattle.std.specs.Int.{int_max, int_min}
+use Rattle.ofit_num.specs.Problem.{Problem, HasPlaces}
+use Rattle.ofit_num.specs.Meaning.{Meaning}
+use Rattle.ofit_num.specs.Fraction.{Fraction}
+use Rattle.ofit_num.specs.Trial.{Trial, trial_of, scale_of, Represents}
+use Rattle.ofit_num.specs.Fit.{Best, LeastBest, LeastBestValues}
+use Rattle.ofit_num.specs.Law.{HasSupport, HasScaling, HasFallingSpans}
+use Rattle.ofit_num.specs.Settled.{IsSettled, IsLeastSettled}
+use Rattle.ofit_num.specs.Clipped.{without_bounds, HasConstantBounds, AreOrdered, whole, clip, clip_low, clip_high, raised_to, lowered_to, clipped}
+use Rattle.ofit_num.proofs.Order.{mul_pos, mul_strict, cancel_le_ℤ, assoc_swap, equal_at_most, equal_at_least}
+use Rattle.ofit_num.proofs.TableScaling.{times_one}
+use Rattle.ofit_num.proofs.Trials.{trial_of-represents, least_best_values}
+use Rattle.ofit_num.proofs.Settled.{settled_best, settled_least}
+use Rattle.ofit_num.proofs.StrictBest.{FallStrictly, strict_least_best}
+use Rattle.ofit_num.proofs.Clipped.{clipped_settled, clipped_least_settled}
+
+-- the value v/q is that of the fraction
+record IsValue (v : ℤ) (q : ℕ) (f : Fraction) : Type 0 where
+  den : 0 < f.den
+  value : v *ℤ pos f.den ≡ f.num *ℤ pos q
+
+test_less : (x y : ℤ) → int_lt x y ≡ true → x <ℤ y
+test_less x y e = omega (arith, ints)
+
+test_least : (x y : ℤ) → int_lt x y ≡ false → y ≤ℤ x
+test_least x y e = omega (arith, ints)
+
+-- what is at most, or at least, a whole number over one denominator is so over another
+whole_at_most : (v c : ℤ) (q : ℕ) (f : Fraction) → IsValue v q f → f.num ≤ℤ (c *ℤ pos f.den) → v ≤ℤ (c *ℤ pos q)
+whole_at_most v c q f is h = omega (arith, ints, times_one v, times_one f.num, equal_at_most f.num v c f.den q 1 is.den (sym is.value) (omega (arith, ints, times_one f.num)))
+
+whole_at_least : (v c : ℤ) (q : ℕ) (f : Fraction) → IsValue v q f → (c *ℤ pos f.den) ≤ℤ f.num → (c *ℤ pos q) ≤ℤ v
+whole_at_least v c q f is h = omega (arith, ints, times_one v, times_one f.num, equal_at_least f.num v c f.den q 1 is.den (sym is.value) (omega (arith, ints, times_one f.num)))
+
+whole_value : (v c : ℤ) (q : ℕ) → v ≡ c *ℤ pos q → IsValue v q (whole c)
+whole_value v c q e = record { den = omega arith; value = sym (times_one v) ∙ e }
+
+same_value : (v w : ℤ) (q : ℕ) (f : Fraction) → w ≡ v → IsValue v q f → IsValue w q f
+same_value v w q f e is = record { den = is.den; value = ap (λ (z : ℤ). z *ℤ pos f.den) e ∙ is.value }
+
+-- cut off on either side, the value is that of the fraction cut off
+value_low : (o : Option ℤ) (v : ℤ) (q : ℕ) (f : Fraction) → IsValue v q f → IsValue (raised_to o q v) q (clip_low o f)
+value_low None v q f is = is
+value_low (Some lo) v q f is = cond_both (int_lt f.num (lo *ℤ pos f.den)) (whole lo) f (IsValue (int_max v (lo *ℤ pos q)) q)
+    (λ e. whole_value _ lo q (omega (arith, ints, clamps, whole_at_most v lo q f is (omega (arith, ints, test_less f.num (lo *ℤ pos f.den) e)))))
+    (λ e. same_value v _ q f (omega (arith, ints, clamps, whole_at_least v lo q f is (test_least f.num (lo *ℤ pos f.den) e))) is)
+
+value_high : (o : Option ℤ) (v : ℤ) (q : ℕ) (f : Fraction) → IsValue v q f → IsValue (lowered_to o q v) q (clip_high o f)
+value_high None v q f is = is
+value_high (Some hi) v q f is = cond_both (int_lt (hi *ℤ pos f.den) f.num) (whole hi) f (IsValue (int_min v (hi *ℤ pos q)) q)
+    (λ e. whole_value _ hi q (omega (arith, ints, clamps, whole_at_least v hi q f is (omega (arith, ints, test_less (hi *ℤ pos f.den) f.num e)))))
+    (λ e. same_value v _ q f (omega (arith, ints, clamps, whole_at_most v hi q f is (test_least (hi *ℤ pos f.den) f.num e))) is)
+
+-- an element of a list of fractions cut off
+from_list : (h : Fraction → Fraction) (fs : List Fraction) (g : ℕ) (c : Fraction) → slice_get (map h fs) g ≡ Some c → (f : Fraction) × (slice_get fs g ≡ Some f) × (h f ≡ c)
+from_list h [] g c e = cc
+from_list h (f ∷ fs) zero c e = (f, refl, cc)
+from_list h (f ∷ fs) (suc g) c e = from_list h fs g c e
+
+-- The trial cut off has the fractions cut off.
+pub clipped_represents : (lo hi : Option ℤ) (fs : List Fraction) (t : Trial) → Represents fs t → Represents (map (clip lo hi) fs) (clipped lo hi t)
+clipped_represents lo hi fs t has = record {
+  scale = has.scale;
+  dens = λ g c e. (each g c (from_list (clip lo hi) fs g c e)).den;
+  values = λ g c e. (each g c (from_list (clip lo hi) fs g c e)).value;
+} where
+  each : (g : ℕ) (c : Fraction) → (f : Fraction) × (slice_get fs g ≡ Some f) × (clip lo hi f ≡ c) → IsValue ((clipped lo hi t).value g) t.scale c
+  each g c x = subst (IsValue ((clipped lo hi t).value g) t.scale) x.2
+      (value_high hi _ t.scale _ (value_low lo (t.value g) t.scale x.0 (record { den = has.dens g x.0 x.1; value = has.values g x.0 x.1 })))
+
+-- What is settled without bounds, cut off, is least best within them: where the loss isn't strict by what it loses by lowering, and where it is since a best fit is the only one.
+pub clipped_least_best : (m : Meaning) (strict : Bool) (s : Problem) (lo hi : Option ℤ) (t : Trial)
+    → HasSupport m s → HasFallingSpans m s → 0 < m.degree → (strict ≡ true → FallStrictly m s)
+    → HasConstantBounds s lo hi → AreOrdered lo hi
+    → IsSettled m (without_bounds s) t → (strict ≡ false → IsLeastSettled m (without_bounds s) t)
+    → LeastBest m s (clipped lo hi t)
+clipped_least_best m true s lo hi t support falling some strictly constant ordered settled least =
+    strict_least_best m s support some (strictly refl) (clipped lo hi t) (settled_best m s (clipped lo hi t) support (clipped_settled m s lo hi falling constant ordered t settled))
+clipped_least_best m false s lo hi t support falling some strictly constant ordered settled least =
+    settled_least m s (clipped lo hi t) some support (clipped_least_settled m s lo hi falling constant ordered t (least refl))
+
+-- The same of a list of values.
+pub clipped_least_best_values : (m : Meaning) (strict : Bool) (s : Problem) (lo hi : Option ℤ) (values : List Fraction)
+    → HasPlaces s → HasSupport m s → HasScaling m s → HasFallingSpans m s → 0 < m.degree → (strict ≡ true → FallStrictly m s)
+    → HasConstantBounds s lo hi → AreOrdered lo hi → length values ≡ s.count
+    → IsSettled m (without_bounds s) (trial_of values) → (strict ≡ false → IsLeastSettled m (without_bounds s) (trial_of values))
+    → LeastBestValues m s (map (clip lo hi) values)
+clipped_least_best_values m strict s lo hi values places support scaling falling some strictly constant ordered count settled least =
+    least_best_values m s places scaling (map (clip lo hi) values) (clipped lo hi (trial_of values)) (length-map values (clip lo hi) ∙ count)
+    (clipped_represents lo hi values (trial_of values) (trial_of-represents values settled.obeys.scale))
+    (clipped_least_best m strict s lo hi (trial_of values) support falling some strictly constant ordered settled least)
