@@ -1,7 +1,7 @@
 -- Values that are settled without bounds, cut off at constant bounds, are settled within them.
 use Rattle.std.proofs.Common.{◌≡◌, ℕ, zero, suc, ◌-◌, ◌^◌, ◌<◌, refl, sym, ap, subst, arith, cond, Bool, true, false, int_eq}
 use Rattle.std.proofs.lemmas.Int.{ints, clamps, by_lt_z}
-use Rattle.std.proofs.lemmas.Bool.Decides.{Decides-int_eq}
+use Rattle.std.proofs.lemmas.Bool.Decides.{Decides-int_eq, not_from_Decides}
 use Rattle.std.specs.Prelude.{ℤ, pos, ◌+ℤ◌, ◌*ℤ◌, ◌≤ℤ◌, ◌<ℤ◌, Option, Some, None, IfSome}
 use Rattle.std.specs.Int.{int_max, int_min}
 use Rattle.ofit_num.specs.Problem.{Problem, Bounds}
@@ -43,9 +43,6 @@ inside_high : (lo hi : Option ℤ) (q : ℕ) (v : ℤ) → IfSome hi (λ h. lowe
 inside_high lo None q v = tt
 inside_high lo (Some h) q v = omega (arith, ints, clamps)
 
-differs : (x y : ℤ) → int_eq x y ≡ false → x ≡ y → ⊥
-differs x y e = grind (arith, Decides-int_eq)
-
 -- Below the upper bound nothing was lowered, and above the lower one nothing was raised.
 raised_only : (lo hi : Option ℤ) (q : ℕ) (v : ℤ) → is_at hi (lowered_to hi q (raised_to lo q v)) q ≡ false → v ≤ℤ lowered_to hi q (raised_to lo q v)
 raised_only lo hi q v e = go hi e where
@@ -57,13 +54,13 @@ raised_only lo hi q v e = go hi e where
   go None e = upward lo
   go (Some h) e = by_lt_z (raised_to lo q v) (h *ℤ pos q)
       (λ less. omega (arith, ints, clamps, upward lo))
-      (λ at_least. absurd (differs (h *ℤ pos q) _ e (omega (arith, ints, clamps))))
+      (λ at_least. absurd (not_from_Decides (int_eq (h *ℤ pos q) _) (Decides-int_eq (h *ℤ pos q) _) e (omega (arith, ints, clamps))))
 
 lowered_only : (lo hi : Option ℤ) (q : ℕ) (v : ℤ) → AreOrdered lo hi → is_at lo (lowered_to hi q (raised_to lo q v)) q ≡ false → lowered_to hi q (raised_to lo q v) ≤ℤ v
 lowered_only None None q v o e = omega (arith, ints)
 lowered_only None (Some h) q v o e = omega (arith, ints, clamps)
 lowered_only (Some l) hi q v o e = by_lt_z v (l *ℤ pos q)
-    (λ less. absurd (differs (l *ℤ pos q) _ e (at_low hi o less)))
+    (λ less. absurd (not_from_Decides (int_eq (l *ℤ pos q) _) (Decides-int_eq (l *ℤ pos q) _) e (at_low hi o less)))
     (λ at_least. within hi at_least)
   where
     at_low : (hi : Option ℤ) → AreOrdered (Some l) hi → v <ℤ (l *ℤ pos q) → l *ℤ pos q ≡ lowered_to hi q (raised_to (Some l) q v)

@@ -8,16 +8,17 @@ use Rattle.std.specs.Int.{int_max, int_min}
 use Rattle.ofit_num.specs.Problem.{Problem, HasPlaces}
 use Rattle.ofit_num.specs.Meaning.{Meaning}
 use Rattle.ofit_num.specs.Fraction.{Fraction}
-use Rattle.ofit_num.specs.Trial.{Trial, trial_of, scale_of, Represents}
-use Rattle.ofit_num.specs.Fit.{Best, LeastBest, LeastBestValues}
-use Rattle.ofit_num.specs.Law.{HasSupport, HasScaling, HasFallingSpans}
+use Rattle.ofit_num.specs.Trial.{Trial, trial_of, scale_of, Represents, EqualBelow}
+use Rattle.ofit_num.specs.Fit.{BestValues, LeastBestValues}
+use Rattle.ofit_num.specs.Law.{HasSupport, HasFallingSpans}
 use Rattle.ofit_num.specs.Settled.{IsSettled, IsLeastSettled}
 use Rattle.ofit_num.specs.Clipped.{without_bounds, HasConstantBounds, AreOrdered, whole, clip, clip_low, clip_high, raised_to, lowered_to, clipped}
 use Rattle.ofit_num.proofs.Order.{mul_pos, mul_strict, cancel_le_ℤ, assoc_swap, equal_at_most, equal_at_least}
 use Rattle.ofit_num.proofs.TableScaling.{times_one}
-use Rattle.ofit_num.proofs.Trials.{trial_of-represents, least_best_values}
+use Rattle.ofit_num.proofs.Trials.{scale_above, trial_of-represents, EqualBelow-represents}
 use Rattle.ofit_num.proofs.Settled.{settled_best, settled_least}
 use Rattle.ofit_num.proofs.StrictBest.{FallStrictly, strict_least_best}
+use Rattle.ofit_num.proofs.SettledEqual.{settled_equal, least_settled_equal}
 use Rattle.ofit_num.proofs.Clipped.{clipped_settled, clipped_least_settled}
 
 -- the value v/q is that of the fraction
@@ -74,24 +75,47 @@ clipped_represents lo hi fs t has = record {
   each g c x = subst (IsValue ((clipped lo hi t).value g) t.scale) x.2
       (value_high hi _ t.scale _ (value_low lo (t.value g) t.scale x.0 (record { den = has.dens g x.0 x.1; value = has.values g x.0 x.1 })))
 
--- What is settled without bounds, cut off, is least best within them: where the loss isn't strict by what it loses by lowering, and where it is since a best fit is the only one.
-pub clipped_least_best : (m : Meaning) (strict : Bool) (s : Problem) (lo hi : Option ℤ) (t : Trial)
-    → HasSupport m s → HasFallingSpans m s → 0 < m.degree → (strict ≡ true → FallStrictly m s)
-    → HasConstantBounds s lo hi → AreOrdered lo hi
-    → IsSettled m (without_bounds s) t → (strict ≡ false → IsLeastSettled m (without_bounds s) t)
-    → LeastBest m s (clipped lo hi t)
-clipped_least_best m true s lo hi t support falling some strictly constant ordered settled least =
-    strict_least_best m s support some (strictly refl) (clipped lo hi t) (settled_best m s (clipped lo hi t) support (clipped_settled m s lo hi falling constant ordered t settled))
-clipped_least_best m false s lo hi t support falling some strictly constant ordered settled least =
-    settled_least m s (clipped lo hi t) some support (clipped_least_settled m s lo hi falling constant ordered t (least refl))
+-- A list of values that is settled without bounds, cut off at constant bounds.
+module _ (m : Meaning) (s : Problem) (lo hi : Option ℤ) (values : List Fraction) (places : HasPlaces s) (falling : HasFallingSpans m s) (constant : HasConstantBounds s lo hi) (ordered : AreOrdered lo hi) (count : length values ≡ s.count) where
+  as_many : length (map (clip lo hi) values) ≡ s.count
+  as_many = length-map values (clip lo hi) ∙ count
 
--- The same of a list of values.
+  represents : 0 < scale_of values → Represents (map (clip lo hi) values) (clipped lo hi (trial_of values))
+  represents scale = clipped_represents lo hi values (trial_of values) (trial_of-represents values scale)
+
+  scale_clipped : 0 < scale_of values → 0 < scale_of (map (clip lo hi) values)
+  scale_clipped scale = scale_above (map (clip lo hi) values) (represents scale).dens
+
+  same_trial : 0 < scale_of values → EqualBelow s.count (clipped lo hi (trial_of values)) (trial_of (map (clip lo hi) values))
+  same_trial scale = subst (λ (n : ℕ). EqualBelow n (clipped lo hi (trial_of values)) (trial_of (map (clip lo hi) values))) as_many
+      (EqualBelow-represents (map (clip lo hi) values) _ _ (represents scale) (trial_of-represents (map (clip lo hi) values) (scale_clipped scale)))
+
+  -- It is settled within them.
+  pub clipped_settled_values : IsSettled m (without_bounds s) (trial_of values) → IsSettled m s (trial_of (map (clip lo hi) values))
+  clipped_settled_values settled = settled_equal m s _ _ places falling (same_trial settled.obeys.scale) settled.obeys.scale (scale_clipped settled.obeys.scale)
+      (clipped_settled m s lo hi falling constant ordered (trial_of values) settled)
+
+  pub clipped_least_settled_values : IsLeastSettled m (without_bounds s) (trial_of values) → IsLeastSettled m s (trial_of (map (clip lo hi) values))
+  clipped_least_settled_values least = least_settled_equal m s _ _ places falling (same_trial least.settled.obeys.scale) least.settled.obeys.scale (scale_clipped least.settled.obeys.scale)
+      (clipped_least_settled m s lo hi falling constant ordered (trial_of values) least)
+
+  -- So it is best; and least best where it loses by lowering any set, and where spans fall strictly, since there a best fit is the only one.
+  pub clipped_best_values : HasSupport m s → IsSettled m (without_bounds s) (trial_of values) → BestValues m s (map (clip lo hi) values)
+  clipped_best_values support settled = record { count = as_many; best = settled_best m s _ support (clipped_settled_values settled) }
+
+  pub clipped_lowest_values : HasSupport m s → 0 < m.degree → IsLeastSettled m (without_bounds s) (trial_of values) → LeastBestValues m s (map (clip lo hi) values)
+  clipped_lowest_values support some least = record { count = as_many; least_best = settled_least m s _ some support (clipped_least_settled_values least) }
+
+  pub clipped_strict_values : HasSupport m s → 0 < m.degree → FallStrictly m s → IsSettled m (without_bounds s) (trial_of values) → LeastBestValues m s (map (clip lo hi) values)
+  clipped_strict_values support some strictly settled = record { count = as_many; least_best = strict_least_best m s support some strictly _ (clipped_best_values support settled).best }
+
+-- By what the fits tell of their values, the values cut off are least best within the bounds.
 pub clipped_least_best_values : (m : Meaning) (strict : Bool) (s : Problem) (lo hi : Option ℤ) (values : List Fraction)
-    → HasPlaces s → HasSupport m s → HasScaling m s → HasFallingSpans m s → 0 < m.degree → (strict ≡ true → FallStrictly m s)
+    → HasPlaces s → HasSupport m s → HasFallingSpans m s → 0 < m.degree → (strict ≡ true → FallStrictly m s)
     → HasConstantBounds s lo hi → AreOrdered lo hi → length values ≡ s.count
     → IsSettled m (without_bounds s) (trial_of values) → (strict ≡ false → IsLeastSettled m (without_bounds s) (trial_of values))
     → LeastBestValues m s (map (clip lo hi) values)
-clipped_least_best_values m strict s lo hi values places support scaling falling some strictly constant ordered count settled least =
-    least_best_values m s places scaling (map (clip lo hi) values) (clipped lo hi (trial_of values)) (length-map values (clip lo hi) ∙ count)
-    (clipped_represents lo hi values (trial_of values) (trial_of-represents values settled.obeys.scale))
-    (clipped_least_best m strict s lo hi (trial_of values) support falling some strictly constant ordered settled least)
+clipped_least_best_values m true s lo hi values places support falling some strictly constant ordered count settled least =
+    clipped_strict_values m s lo hi values places falling constant ordered count support some (strictly refl) settled
+clipped_least_best_values m false s lo hi values places support falling some strictly constant ordered count settled least =
+    clipped_lowest_values m s lo hi values places falling constant ordered count support some (least refl)

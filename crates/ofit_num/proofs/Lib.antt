@@ -47,3 +47,5 @@ pub mod Levels
 pub mod Division
 pub mod Clipped
 pub mod ClippedValues
+pub mod ClippedTable
+pub mod SettledEqual
