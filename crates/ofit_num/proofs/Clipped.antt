@@ -3,10 +3,8 @@ use Rattle.std.proofs.Common.{◌≡◌, ℕ, zero, suc, ◌-◌, ◌^◌, ◌<�
 use Rattle.std.proofs.lemmas.Int.{ints, clamps, by_lt_z}
 use Rattle.std.proofs.lemmas.Bool.Decides.{Decides-int_eq, not_from_Decides}
 use Rattle.std.specs.Prelude.{ℤ, pos, ◌+ℤ◌, ◌*ℤ◌, ◌≤ℤ◌, ◌<ℤ◌, Option, Some, None, IfSome}
-use Rattle.std.specs.Int.{int_max, int_min}
 use Rattle.ofit_num.specs.Problem.{Problem, Bounds}
 use Rattle.ofit_num.specs.Meaning.{Meaning}
-use Rattle.ofit_num.specs.Fraction.{Fraction}
 use Rattle.ofit_num.specs.Trial.{Trial}
 use Rattle.ofit_num.specs.Fit.{Obeys}
 use Rattle.ofit_num.specs.Span.{is_at}

@@ -1,6 +1,6 @@
 -- Fractions cut off at constant bounds: least best within them, where they are settled without them.
-use Rattle.std.proofs.Common.{◌≡◌, ℕ, zero, suc, ◌<◌, refl, sym, ap, subst, ◌∙◌, arith, cond, Bool, true, false, List, [], ◌∷◌, map, length}
-use Rattle.std.proofs.lemmas.Int.{ints, clamps, by_lt_z}
+use Rattle.std.proofs.Common.{◌≡◌, ℕ, zero, suc, ◌<◌, refl, sym, ap, subst, ◌∙◌, arith, Bool, true, false, List, [], ◌∷◌, map, length}
+use Rattle.std.proofs.lemmas.Int.{ints, clamps}
 use Rattle.std.proofs.lemmas.Bool.{cond_both}
 use Rattle.std.proofs.lemmas.List.{length-map}
 use Rattle.std.specs.Prelude.{ℤ, pos, ◌*ℤ◌, ◌≤ℤ◌, ◌<ℤ◌, Option, Some, None, slice_get, int_lt}
@@ -13,7 +13,7 @@ use Rattle.ofit_num.specs.Fit.{BestValues, LeastBestValues}
 use Rattle.ofit_num.specs.Law.{HasSupport, HasFallingSpans}
 use Rattle.ofit_num.specs.Settled.{IsSettled, IsLeastSettled}
 use Rattle.ofit_num.specs.Clipped.{without_bounds, HasConstantBounds, AreOrdered, whole, clip, clip_low, clip_high, raised_to, lowered_to, clipped}
-use Rattle.ofit_num.proofs.Order.{mul_pos, mul_strict, cancel_le_ℤ, assoc_swap, equal_at_most, equal_at_least}
+use Rattle.ofit_num.proofs.Order.{equal_at_most, equal_at_least}
 use Rattle.ofit_num.proofs.TableScaling.{times_one}
 use Rattle.ofit_num.proofs.Trials.{scale_above, trial_of-represents, EqualBelow-represents}
 use Rattle.ofit_num.proofs.Settled.{settled_best, settled_least}

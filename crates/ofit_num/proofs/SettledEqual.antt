@@ -2,16 +2,15 @@
 use Rattle.std.proofs.Common.{◌≡◌, ℕ, ◌-◌, ◌^◌, ◌<◌, refl, sym, ap, ◌∙◌, arith, Bool, true, false, int_eq}
 use Rattle.std.proofs.lemmas.Int.{ints}
 use Rattle.std.proofs.lemmas.Bool.Decides.{Decides-int_eq, not_from_Decides}
-use Rattle.std.specs.Prelude.{ℤ, pos, ◌*ℤ◌, ◌≤ℤ◌, ◌<ℤ◌, Option, Some, None}
+use Rattle.std.specs.Prelude.{ℤ, pos, ◌*ℤ◌, ◌≤ℤ◌, Option, Some, None}
 use Rattle.ofit_num.specs.Problem.{Problem, HasPlaces}
 use Rattle.ofit_num.specs.Meaning.{Meaning}
-use Rattle.ofit_num.specs.Fraction.{Fraction}
 use Rattle.ofit_num.specs.Trial.{Trial, EqualBelow}
 use Rattle.ofit_num.specs.Span.{is_at}
-use Rattle.ofit_num.specs.Law.{HasFallingSpans, least_at, greatest_at}
+use Rattle.ofit_num.specs.Law.{HasFallingSpans}
 use Rattle.ofit_num.specs.Sets.{set_sum, IsClosedUp, IsClosedDown}
 use Rattle.ofit_num.specs.Settled.{IsSettled, IsLeastSettled, CanRise, CanFall}
-use Rattle.ofit_num.proofs.Order.{mul_pos, mul_strict, zero_mul_ℤ, pow_above, cancel_ℤ, cancel_le_ℤ, assoc_swap}
+use Rattle.ofit_num.proofs.Order.{mul_pos, mul_strict, zero_mul_ℤ, pow_above, cancel_ℤ, assoc_swap}
 use Rattle.ofit_num.proofs.Scaling.{Obeys-equal}
 use Rattle.ofit_num.proofs.Recursion.{set_sum-le, not_above, not_below, above_zero}
 
