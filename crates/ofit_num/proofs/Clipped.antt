@@ -1,8 +1,8 @@
 -- Values that are settled without bounds, cut off at constant bounds, are settled within them.
-use Rattle.std.proofs.Common.{◌≡◌, ℕ, zero, suc, ◌-◌, ◌^◌, ◌<◌, refl, sym, ap, subst, arith, cond, Bool, true, false, int_eq}
+use Rattle.std.proofs.Common.{◌≡◌, ℕ, ◌-◌, ◌^◌, ◌<◌, refl, sym, ap, subst, arith, Bool, false, int_eq}
 use Rattle.std.proofs.lemmas.Int.{ints, clamps, by_lt_z}
 use Rattle.std.proofs.lemmas.Bool.Decides.{Decides-int_eq, not_from_Decides}
-use Rattle.std.specs.Prelude.{ℤ, pos, ◌+ℤ◌, ◌*ℤ◌, ◌≤ℤ◌, ◌<ℤ◌, Option, Some, None, IfSome}
+use Rattle.std.specs.Prelude.{ℤ, pos, ◌*ℤ◌, ◌≤ℤ◌, ◌<ℤ◌, Option, Some, None, IfSome}
 use Rattle.ofit_num.specs.Problem.{Problem, Bounds}
 use Rattle.ofit_num.specs.Meaning.{Meaning}
 use Rattle.ofit_num.specs.Trial.{Trial}
@@ -13,14 +13,7 @@ use Rattle.ofit_num.specs.Sets.{set_sum, IsClosedUp, IsClosedDown}
 use Rattle.ofit_num.specs.Settled.{IsSettled, IsLeastSettled, CanRise, CanFall}
 use Rattle.ofit_num.specs.Clipped.{without_bounds, HasConstantBounds, AreOrdered, raised_to, lowered_to, clipped}
 use Rattle.ofit_num.proofs.Order.{mul_pos, mul_strict, pow_above, cancel_le_ℤ}
-
--- a sum over a set, of terms that are at most others
-pub set_sum-members : (a : ℕ → Bool) (f h : ℕ → ℤ) (n : ℕ) → ((g : ℕ) → g < n → a g ≡ true → f g ≤ℤ h g) → set_sum a f n ≤ℤ set_sum a h n
-set_sum-members a f h zero le = omega (arith, ints)
-set_sum-members a f h (suc n) le = go (a n) refl (set_sum-members a f h n (λ g l u. le g (omega arith) u)) where
-  go : (x : Bool) → a n ≡ x → set_sum a f n ≤ℤ set_sum a h n → (set_sum a f n +ℤ cond x (f n) (pos 0)) ≤ℤ (set_sum a h n +ℤ cond x (h n) (pos 0))
-  go true u p = omega (arith, ints, le n (omega arith) u)
-  go false u p = omega (arith, ints)
+use Rattle.ofit_num.proofs.Levels.{set_sum-members}
 
 -- numbers that rise, still rise when they are cut off
 raised_mono : (o : Option ℤ) (q : ℕ) (v w : ℤ) → v ≤ℤ w → raised_to o q v ≤ℤ raised_to o q w
@@ -89,7 +82,7 @@ module _ (m : Meaning) (s : Problem) (law : HasFallingSpans m s) (q : ℕ) (scal
       let e : p ≡ p' = omega (arith, ints) in
       omega (arith, ints, ap (λ (z : ℤ). m.greatest (s.rows g) z q) e))
 
--- A set that moves together when the values are cut off moves together before, and each of its places was moved the other way at most.
+-- A set that can be raised together once the values are cut off could be raised together before, and cutting off lowered none of its places; the same of sets that can be lowered.
 module _ (m : Meaning) (s : Problem) (lo hi : Option ℤ) (law : HasFallingSpans m s) (constant : HasConstantBounds s lo hi) (ordered : AreOrdered lo hi) (t : Trial) where
   pub clipped_obeys : Obeys (without_bounds s) t → Obeys s (clipped lo hi t)
   clipped_obeys obeys = record {

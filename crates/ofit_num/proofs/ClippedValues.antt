@@ -119,3 +119,8 @@ clipped_least_best_values m true s lo hi values places support falling some stri
     clipped_strict_values m s lo hi values places falling constant ordered count support some (strictly refl) settled
 clipped_least_best_values m false s lo hi values places support falling some strictly constant ordered count settled least =
     clipped_lowest_values m s lo hi values places falling constant ordered count support some (least refl)
+
+-- The values 1, 7/2, 11/2 cut off at 2 and 5 are 2, 7/2, 5.
+example_clip : map (clip (Some (pos 2)) (Some (pos 5))) (record { num = pos 1; den = 1 } ∷ record { num = pos 7; den = 2 } ∷ record { num = pos 11; den = 2 } ∷ [])
+    ≡ whole (pos 2) ∷ record { num = pos 7; den = 2 } ∷ whole (pos 5) ∷ []
+example_clip = refl

@@ -9,10 +9,6 @@ use Rattle.ofit_num.specs.Trial.{Trial}
 abbrev pub without_bounds : Problem → Problem
 without_bounds s = record { count = s.count; rows = s.rows; pairs = s.pairs; bounds = no_bounds }
 
--- the problem with these bounds at each place
-abbrev pub with_bounds : Option ℤ → Option ℤ → Problem → Problem
-with_bounds lo hi s = record { count = s.count; rows = s.rows; pairs = s.pairs; bounds = λ g. record { lo = lo; hi = hi } }
-
 -- each place has these bounds
 pub record HasConstantBounds (s : Problem) (lo hi : Option ℤ) : Type 0 where
   pub each : (g : ℕ) → g < s.count → ◌≡◌ {A = Bounds} (s.bounds g) (record { lo = lo; hi = hi })
