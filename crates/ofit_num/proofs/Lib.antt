@@ -48,3 +48,7 @@ pub mod TableSettled
 pub mod FractionOrder
 pub mod Levels
 pub mod Division
+pub mod Clipped
+pub mod ClippedValues
+pub mod ClippedTable
+pub mod SettledEqual

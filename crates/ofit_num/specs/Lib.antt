@@ -17,6 +17,7 @@ pub mod Settled
 pub mod Block
 pub mod Level
 pub mod Steep
+pub mod Clipped
 pub mod Sheet
 pub mod Verdict
 pub mod DecimalText
