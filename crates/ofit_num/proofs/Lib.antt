@@ -44,3 +44,4 @@ pub mod TableSettled
 pub mod FractionOrder
 pub mod Levels
 pub mod Division
+pub mod Pigeonhole
