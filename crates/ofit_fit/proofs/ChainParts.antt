@@ -1,24 +1,23 @@
 -- The groups of a chain in its order make the component's part.
-use Rattle.std.proofs.Common.{◌≡◌, ℕ, zero, suc, ◌+◌, ◌<◌, ◌≤◌, refl, sym, ap, ap₂, subst, ◌∙◌, arith, List, [], length, get_or, map, slice_index, ◌↔◌}
-use Rattle.std.proofs.lemmas.List.{same_lists, get_or-map, length-map, get_or_default}
+use Rattle.std.proofs.Common.{◌≡◌, ℕ, suc, ◌+◌, ◌<◌, refl, sym, ap, subst, ◌∙◌, arith, List, [], length, map, slice_index, ◌↔◌}
+use Rattle.std.proofs.lemmas.List.{get_or-map, length-map}
 use Rattle.std.proofs.lemmas.List.Elements.{All-contains, All-contains_itself}
 use Rattle.std.proofs.lemmas.Option.{unwrap_or-slice_get}
-use Rattle.std.specs.Prelude.{slice_get, Some, None, unwrap_or, Option, All, ℤ}
+use Rattle.std.specs.Prelude.{slice_get, unwrap_or}
 use Rattle.std.specs.List.{Contains}
-use Rattle.ofit_num.specs.declared.row.Row.{Row}
-use Rattle.ofit_num.specs.Problem.{Problem, Bounds, problem_of, no_bounds, HasPlaces}
+use Rattle.ofit_num.specs.Problem.{Problem, no_bounds, HasPlaces}
 use Rattle.ofit_num.specs.Meaning.{Meaning}
 use Rattle.ofit_num.specs.Fraction.{Fraction}
 use Rattle.ofit_num.specs.Fit.{LeastBestValues}
 use Rattle.ofit_num.specs.Law.{HasScaling}
 use Rattle.ofit_order.specs.Connection.{LeadsUp}
-use Rattle.ofit_order.specs.Shape.{Follows, IsChainOf}
+use Rattle.ofit_order.specs.Shape.{IsChainOf}
 use Rattle.ofit_chain.specs.Chain.{chain_pairs, chain_problem}
-use Rattle.ofit_chain.proofs.Runs.{pair_at, each_pair, chain_places}
+use Rattle.ofit_chain.proofs.Runs.{pair_at, each_pair}
 use Rattle.ofit_fit.specs.Part.{position_among, pairs_by_position, part_of}
 use Rattle.ofit_fit.proofs.Places.{HasPlace, IsDistinct}
 use Rattle.ofit_fit.proofs.Parts.{IsPart}
-use Rattle.ofit_fit.proofs.Up.{LiesIn, AreParts}
+use Rattle.ofit_fit.proofs.Up.{AreParts}
 use Rattle.ofit_fit.proofs.Closed.{place_from_contains, contains_from_place, position_at, by_position_kept, by_position_all}
 use Rattle.ofit_fit.proofs.Picked.{Picks, values_up}
 use Rattle.ofit_fit.proofs.ChainPaths.{once, position_back, position_below, leads_next, leads_only}

@@ -1,9 +1,8 @@
 -- The links of a chain lead from its lowest member through all others.
-use Rattle.std.proofs.Common.{◌≡◌, ◌≢◌, ℕ, zero, suc, ◌+◌, ◌<◌, ◌≤◌, ◌⊎◌, refl, sym, ap, subst, ◌∙◌, arith, inl, inr, Bool, true, false, cond, List, [], ◌∷◌, length, get_or, map, drop, slice_index, nat_eq, ◌↔◌}
+use Rattle.std.proofs.Common.{◌≡◌, ◌≢◌, ℕ, zero, suc, ◌+◌, ◌<◌, ◌≤◌, refl, sym, ap, subst, ◌∙◌, arith, inl, inr, Bool, true, false, cond, List, [], ◌∷◌, length, map, drop, slice_index, ◌↔◌}
 use Rattle.std.proofs.lemmas.Bool.{cases_order}
-use Rattle.std.proofs.lemmas.List.{drop_more, drop_all, length-drop, same_lists, get_or-map, length-map, get_or_default}
-use Rattle.std.proofs.lemmas.List.Elements.{Contains-get_or}
-use Rattle.std.specs.Prelude.{Option, Some, None, MatchOption, All, AllPairs}
+use Rattle.std.proofs.lemmas.List.{drop_more, length-drop, length-map, get_or_default}
+use Rattle.std.specs.Prelude.{Option, Some, None, All, AllPairs}
 use Rattle.std.specs.List.{Contains}
 use Rattle.ofit_num.specs.Fit.{sum_below}
 use Rattle.ofit_num.proofs.Sums.{sum_below-same}

@@ -1,7 +1,6 @@
 -- The values of a chain's groups, from the lowest to the highest, and in the order of the members.
-use Rattle.std.proofs.Common.{◌≡◌, ℕ, ◌+◌, ◌<◌, ◌≤◌, refl, sym, ap, subst, ◌∙◌, arith, List, length, get_or, map, slice_index, ◌↔◌}
+use Rattle.std.proofs.Common.{◌≡◌, ℕ, ◌<◌, sym, ap, subst, ◌∙◌, arith, List, length, map, slice_index, ◌↔◌}
 use Rattle.std.proofs.lemmas.List.{same_lists, get_or-map, length-map, get_or_default}
-use Rattle.std.proofs.lemmas.List.Elements.{All-contains}
 use Rattle.std.specs.Prelude.{slice_get, All}
 use Rattle.std.specs.List.{Contains}
 use Rattle.ofit_num.specs.Problem.{Problem, no_bounds}
@@ -17,7 +16,6 @@ use Rattle.ofit_fit.specs.Put.{ArePut}
 use Rattle.ofit_fit.proofs.Places.{HasPlace, IsDistinct}
 use Rattle.ofit_fit.proofs.Parts.{part_scaling}
 use Rattle.ofit_fit.proofs.Closed.{IsClosed, part_of-IsPart}
-use Rattle.ofit_fit.proofs.Picked.{Picks}
 use Rattle.ofit_fit.proofs.ChainPaths.{once, as_many, position_back, position_below}
 use Rattle.ofit_fit.proofs.ChainParts.{all_in, chain_part, values_back}
 

@@ -1,5 +1,5 @@
 -- Lists of places that are closed under the pairs are parts of a problem.
-use Rattle.std.proofs.Common.{◌≡◌, ◌≢◌, ◌==◌, ℕ, zero, suc, ◌<◌, refl, sym, ap, ap₂, subst, ◌∙◌, arith, inl, inr, ◌⊎◌, cond, Bool, true, false, List, [], ◌∷◌, length, get_or, map, slice_index, eq-eqb, ◌↔◌}
+use Rattle.std.proofs.Common.{◌≡◌, ◌≢◌, ◌==◌, ℕ, zero, suc, ◌<◌, refl, sym, ap, subst, ◌∙◌, arith, inl, inr, ◌⊎◌, cond, Bool, true, false, List, [], ◌∷◌, length, get_or, map, slice_index, eq-eqb}
 use Rattle.std.proofs.lemmas.Bool.Decides.{nat_tests}
 use Rattle.std.proofs.lemmas.List.{get_or_default, get_or-map, length-map}
 use Rattle.std.proofs.lemmas.List.Elements.{Contains-get_or, All-contains, All-filter, All-contains_itself, filter_passes}

@@ -1,8 +1,7 @@
 -- The components of a problem's order are its parts.
-use Rattle.std.proofs.Common.{◌≡◌, ℕ, ◌<◌, ◌⊎◌, refl, sym, ap, subst, arith, inl, inr, List, [], length, get_or, slice_index, ◌↔◌}
+use Rattle.std.proofs.Common.{◌≡◌, ℕ, ◌<◌, ◌⊎◌, refl, sym, arith, inl, inr, List, [], length, get_or, slice_index}
 use Rattle.std.proofs.lemmas.Bool.{cases_order}
 use Rattle.std.proofs.lemmas.List.Elements.{Contains-get_or, All-contains}
-use Rattle.std.specs.List.{Contains}
 use Rattle.ofit_num.specs.Problem.{Problem, HasPlaces}
 use Rattle.ofit_num.specs.Meaning.{Meaning}
 use Rattle.ofit_num.specs.Fraction.{Fraction}
@@ -14,7 +13,6 @@ use Rattle.ofit_order.proofs.Forming.{member_inside}
 use Rattle.ofit_order.proofs.Uniqueness.{members_along, only_component}
 use Rattle.ofit_fit.specs.Part.{part_of, values_at, IsOrderOf}
 use Rattle.ofit_fit.specs.Compose.{IsLeastBestByParts}
-use Rattle.ofit_fit.proofs.Places.{HasPlace}
 use Rattle.ofit_fit.proofs.Up.{LiesIn, AreParts}
 use Rattle.ofit_fit.proofs.Closed.{IsClosed, distinct_from_increasing, place_from_contains, contains_from_place, part_of-IsPart}
 use Rattle.ofit_fit.proofs.Picked.{values_at-picks, values_down, values_up}

@@ -1,16 +1,16 @@
 -- What is best, or least best, for a problem is so for each part.
-use Rattle.std.proofs.Common.{◌≡◌, ℕ, ◌+◌, ◌*◌, ◌^◌, ◌<◌, ◌≤◌, ap, ap₂, sym, subst, ◌∙◌, arith, mul-le-mul_left}
+use Rattle.std.proofs.Common.{◌≡◌, ℕ, ◌+◌, ◌*◌, ◌^◌, ◌<◌, ◌≤◌, ap, sym, subst, ◌∙◌, arith, mul-le-mul_left}
 use Rattle.std.proofs.lemmas.Int.{ints}
 use Rattle.std.proofs.lemmas.Nat.{mul-pow}
 use Rattle.std.specs.Prelude.{ℤ, pos, ◌*ℤ◌, ◌≤ℤ◌}
 use Rattle.ofit_num.specs.Problem.{Problem}
 use Rattle.ofit_num.specs.Meaning.{Meaning}
 use Rattle.ofit_num.specs.Trial.{Trial}
-use Rattle.ofit_num.specs.Fit.{Obeys, trial_cost, NoDearer, Best, LeastBest}
+use Rattle.ofit_num.specs.Fit.{Obeys, trial_cost, Best, LeastBest}
 use Rattle.ofit_num.specs.Law.{HasScaling}
 use Rattle.ofit_num.proofs.Order.{mul_pos_mul, pow_above, cancel_le, cancel_le_ℤ}
 use Rattle.ofit_num.proofs.Scaling.{NoDearer-trans}
-use Rattle.ofit_fit.proofs.Parts.{IsPart, along, moved, joined, moved_in, along_obeys, joined_obeys, rest_cost, split_cost, joined_cost}
+use Rattle.ofit_fit.proofs.Parts.{IsPart, along, joined, moved_in, along_obeys, joined_obeys, rest_cost, split_cost, joined_cost}
 
 -- with a and r the costs of part and rest, and b the part's other cost: at the powers x and y of the scales
 take_rest : (a r b x y : ℕ) → 0 < y → (a + r) * (x * y) ≤ (b * y + r * x) * y → a * x ≤ b * y

@@ -1,19 +1,18 @@
 -- The components that are fitted, one after another.
-use Rattle.std.proofs.Common.{◌≡◌, ℕ, ◌+◌, ◌<◌, ◌≤◌, refl, sym, ap, subst, ◌∙◌, arith, inl, inr, List, length, get_or, map, slice_index, ◌↔◌}
+use Rattle.std.proofs.Common.{◌≡◌, ℕ, ◌+◌, ◌<◌, ◌≤◌, sym, ap, subst, ◌∙◌, arith, inl, inr, List, length, slice_index}
 use Rattle.std.proofs.lemmas.Bool.{cases_order}
 use Rattle.std.proofs.lemmas.List.{same_lists, get_or-map, length-map, get_or_default}
 use Rattle.std.proofs.lemmas.List.Elements.{Contains-get_or}
 use Rattle.std.proofs.lemmas.Option.{unwrap_or-slice_get}
-use Rattle.std.specs.Prelude.{slice_get, Option, unwrap_or, pos, Result, Ok, Err, OnErr}
-use Rattle.ofit_num.specs.Tally.{Counts}
+use Rattle.std.specs.Prelude.{Option, unwrap_or, pos, Result, Ok, Err, OnErr}
 use Rattle.std.specs.List.{Contains}
 use Rattle.ofit_num.specs.Problem.{Problem}
 use Rattle.ofit_num.specs.Meaning.{Meaning}
 use Rattle.ofit_num.specs.Fraction.{Fraction}
 use Rattle.ofit_num.specs.Fit.{LeastBestValues}
 use Rattle.ofit_order.specs.Relation.{Relation}
-use Rattle.ofit_order.specs.Connection.{Joins, AreConnected}
-use Rattle.ofit_order.specs.Component.{IsComponentOf, AreMembers, HasComponent, IsComponentCount, IsLeastPlace, AreLeastPlaces}
+use Rattle.ofit_order.specs.Connection.{Joins}
+use Rattle.ofit_order.specs.Component.{IsComponentOf, AreMembers, IsComponentCount, IsLeastPlace}
 use Rattle.ofit_order.proofs.Walks.{IsReached-weaker}
 use Rattle.ofit_order.proofs.Uniqueness.{only_component, AreLeastPlaces-same, HasComponent-below}
 use Rattle.ofit_fit.specs.Part.{part_of, value_at, values_at, IsOrderOf}
@@ -106,20 +105,6 @@ count_of_order order s n of c = (
 
 pub one_count : (s : Problem) (a b : ℕ) → HasComponentCount s a → HasComponentCount s b → a ≡ b
 one_count s a b x y = x.2 ∙ ap length (AreLeastPlaces-same (record { places = s.count; pairs = s.pairs }) x.0 y.0 x.1 y.1) ∙ sym y.2
-
--- fits are counted one by one
-abbrev counts : ℕ → ℕ → Counts
-counts fits cuts = record { fits = fits; cuts = cuts }
-
-pub none_counted : (t : Counts) → t ≡ record t { fits = t.fits + 0 }
-none_counted t = ap (λ (n : ℕ). counts n t.cuts) (plus_zero t.fits) where
-  plus_zero : (n : ℕ) → n ≡ n + 0
-  plus_zero n = omega arith
-
-pub one_counted : (t u v : Counts) (k : ℕ) → v ≡ record u { fits = u.fits + 1 } → u ≡ record t { fits = t.fits + k } → v ≡ record t { fits = t.fits + (k + 1) }
-one_counted t u v k e f = e ∙ ap (λ (w : Counts). counts (w.fits + 1) w.cuts) f ∙ ap (λ (n : ℕ). counts n t.cuts) (plus t.fits k) where
-  plus : (n k : ℕ) → n + k + 1 ≡ n + (k + 1)
-  plus n k = omega arith
 
 -- what holds in any case holds after an error
 pub at_any : {T E : Type 0} (r : Result T E) {P : Type 0} → P → OnErr r P

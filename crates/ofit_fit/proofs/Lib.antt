@@ -17,4 +17,6 @@ pub mod Ready
 pub mod Fitted
 pub mod Stated
 pub mod TreeParts
-pub mod Pooling
+pub mod OneOrder
+pub mod Generals
+pub mod Counts

@@ -19,13 +19,13 @@ take_from xs n x h =
 pub take_to : {X : Type 0} (xs : List X) (n : ℕ) (x : X) (k : ℕ) → k < n → k < length xs → get_or xs k x ≡ x → Contains (take n xs) x
 take_to xs n x k l m e = (k, omega (arith, l, m, length-take n xs), get_or-take n xs k x l ∙ e)
 
-take_grows : {X : Type 0} (xs : List X) (n : ℕ) (x : X) → Contains (take n xs) x → Contains (take (n + 1) xs) x
+pub take_grows : {X : Type 0} (xs : List X) (n : ℕ) (x : X) → Contains (take n xs) x → Contains (take (n + 1) xs) x
 take_grows xs n x h =
     let f : (k : ℕ) × (k < n) × (k < length xs) × (get_or xs k x ≡ x) = take_from xs n x h in
     take_to xs (n + 1) x f.0 (omega (arith, f.1)) f.2 f.3
 
 -- the element at n, or one of the first n
-take_cases : {X : Type 0} (xs : List X) (n : ℕ) (x : X) → Contains (take (n + 1) xs) x → (get_or xs n x ≡ x) ⊎ Contains (take n xs) x
+pub take_cases : {X : Type 0} (xs : List X) (n : ℕ) (x : X) → Contains (take (n + 1) xs) x → (get_or xs n x ≡ x) ⊎ Contains (take n xs) x
 take_cases {X} xs n x h = go (cases_order f.0 n) where
   f : (k : ℕ) × (k < n + 1) × (k < length xs) × (get_or xs k x ≡ x)
   f = take_from xs (n + 1) x h

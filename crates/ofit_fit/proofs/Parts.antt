@@ -1,10 +1,9 @@
 -- A part of a problem: some of its places, with all pairs that touch them.
-use Rattle.std.proofs.Common.{◌≡◌, ℕ, zero, suc, ◌+◌, ◌*◌, ◌^◌, ◌<◌, ◌≤◌, refl, sym, ap, ap₂, subst, ◌∙◌, arith, inl, inr, cond, nat_eq, Bool, true, false, get_or, ◌-◌, List}
+use Rattle.std.proofs.Common.{◌≡◌, ℕ, zero, suc, ◌+◌, ◌*◌, ◌^◌, ◌<◌, refl, sym, ap, ap₂, subst, ◌∙◌, arith, inl, inr, cond, nat_eq, Bool, true, false, get_or, ◌-◌, List}
 use Rattle.std.proofs.lemmas.Int.{ints}
-use Rattle.std.proofs.lemmas.Nat.{mul-pow}
 use Rattle.std.proofs.lemmas.Bool.{cases_order}
 use Rattle.std.proofs.lemmas.List.Elements.{Contains-get_or, All-contains}
-use Rattle.std.specs.Prelude.{ℤ, pos, ◌*ℤ◌, ◌≤ℤ◌, IfSome, Option, Some, None}
+use Rattle.std.specs.Prelude.{ℤ, pos, ◌*ℤ◌, ◌≤ℤ◌, IfSome}
 use Rattle.std.specs.List.{Contains}
 use Rattle.ofit_num.specs.declared.row.Row.{Row}
 use Rattle.ofit_num.specs.Problem.{Problem, Bounds, HasPlaces}
@@ -15,7 +14,7 @@ use Rattle.ofit_num.specs.Law.{HasScaling}
 use Rattle.ofit_num.proofs.Order.{mul_pos, mul_pos_mul}
 use Rattle.ofit_num.proofs.Sums.{sum_below-same, sum_below-scale}
 use Rattle.ofit_num.proofs.Scaling.{above_equal, below_equal}
-use Rattle.ofit_fit.proofs.Places.{is_in, HasPlace, in_from, in_to, out_from, IsDistinct, is_same, same_place, other_place, is_other, sum_picked, sum_split}
+use Rattle.ofit_fit.proofs.Places.{is_in, HasPlace, in_from, out_from, IsDistinct, same_place, other_place, sum_picked, sum_split}
 
 -- each place of p is one of s, by `at`, with the same rows and bounds; the pairs are those of s that touch these places
 pub record IsPart (s p : Problem) (at : ℕ → ℕ) : Type 0 where

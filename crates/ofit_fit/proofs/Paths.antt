@@ -1,7 +1,7 @@
 -- Paths along links, as far as they are followed.
-use Rattle.std.proofs.Common.{◌≡◌, ℕ, ◌+◌, ◌<◌, ◌≤◌, refl, sym, ap, ap₂, subst, ◌∙◌, arith, List, [], ◌∷◌, ◌++◌, length, append_assoc, length-append}
+use Rattle.std.proofs.Common.{◌≡◌, ℕ, ◌+◌, ◌<◌, ◌≤◌, sym, ap, subst, ◌∙◌, arith, List, [], ◌∷◌, ◌++◌, length, append_assoc, length-append}
 use Rattle.std.proofs.lemmas.List.{append-nil, length_push}
-use Rattle.std.specs.Prelude.{Option, Some, None, IfSome, All, slice_index_or}
+use Rattle.std.specs.Prelude.{Option, Some, None, All}
 use Rattle.ofit_fit.specs.Links.{IsLinkWithin, IsPathFrom, link_at}
 
 -- what is left of a path

@@ -1,5 +1,5 @@
 -- Lists of values of a problem and of its parts.
-use Rattle.std.proofs.Common.{◌≡◌, ℕ, ◌<◌, sym, ap, subst, ◌∙◌, arith, List, length, map, slice_index, get_or}
+use Rattle.std.proofs.Common.{◌≡◌, ℕ, ◌<◌, sym, ap, ◌∙◌, arith, List, length, slice_index}
 use Rattle.std.proofs.lemmas.List.{get_or-map, length-map}
 use Rattle.std.proofs.lemmas.Option.{slice_get_within, slice_get-get_or, unwrap_or-slice_get}
 use Rattle.std.specs.Prelude.{slice_get, Some, pos}
@@ -11,7 +11,6 @@ use Rattle.ofit_num.specs.Fit.{LeastBest, LeastBestValues}
 use Rattle.ofit_num.specs.Law.{HasScaling}
 use Rattle.ofit_num.proofs.Trials.{scale_above, den_above, value_of-den, least_best_values, least_best_trial}
 use Rattle.ofit_fit.specs.Part.{value_at, values_at}
-use Rattle.ofit_fit.proofs.Places.{HasPlace}
 use Rattle.ofit_fit.proofs.Parts.{IsPart, along, part_scaling}
 use Rattle.ofit_fit.proofs.Down.{least_best_down}
 use Rattle.ofit_fit.proofs.Up.{LiesIn, AreParts, least_best_up}

@@ -1,5 +1,5 @@
 -- Lists made or changed one element at a time.
-use Rattle.std.proofs.Common.{◌≡◌, ◌≢◌, ℕ, zero, suc, ◌+◌, ◌<◌, ◌≤◌, ◌⊎◌, refl, sym, ap, subst, ◌∙◌, arith, inl, inr, List, [], ◌∷◌, ◌++◌, length, get_or, set, slice_index, take, map}
+use Rattle.std.proofs.Common.{◌≡◌, ◌≢◌, ℕ, zero, suc, ◌+◌, ◌<◌, ◌≤◌, refl, sym, ap, subst, ◌∙◌, arith, inl, inr, List, [], ◌∷◌, ◌++◌, length, get_or, set, slice_index, take, map}
 use Rattle.std.proofs.lemmas.Bool.{cases_order}
 use Rattle.std.proofs.lemmas.List.{take_more, take_all, map-append, get_or-take, get_or_default, length-take, length-set}
 use Rattle.std.specs.Prelude.{slice_get, Some}
@@ -8,7 +8,6 @@ use Rattle.ofit_num.specs.Fraction.{Fraction}
 use Rattle.ofit_fit.specs.Put.{ArePut}
 use Rattle.ofit_fit.proofs.Linking.{take_from, take_to}
 use Rattle.ofit_fit.proofs.Places.{IsDistinct}
-use Rattle.ofit_fit.proofs.Closed.{contains_from_place}
 
 pub mapped_more : {Y : Type 0} (f : ℕ → Y) (xs : List ℕ) (i : ℕ) (ys after : List Y) (y : Y) → i < length xs → y ≡ f (get_or xs i 0) → after ≡ ys ++ y ∷ [] → ys ≡ map f (take i xs) → after ≡ map f (take (i + 1) xs)
 mapped_more {Y} f xs i ys after y l same is e =

@@ -1,47 +1,43 @@
 -- What a study that can be fitted tells of its problem.
-use Rattle.std.proofs.Common.{◌≡◌, ℕ, zero, suc, ◌+◌, ◌<◌, ◌≤◌, refl, sym, ap, ap₂, subst, ◌∙◌, arith, List, [], ◌∷◌, length, slice_index, get_or, add-one, ◌↔◌, cond, nat_lt, Bool, false}
+use Rattle.std.proofs.Common.{◌≡◌, ℕ, zero, suc, ◌+◌, ◌<◌, ◌≤◌, refl, sym, ap, ap₂, subst, arith, inl, inr, List, [], ◌∷◌, length, slice_index, ◌↔◌, length-append, cond, nat_lt, Bool, false}
 use Rattle.std.proofs.lemmas.Bool.Decides.{nat_tests}
 use Rattle.std.proofs.lemmas.List.Sums.{sum_by-cons}
-use Rattle.std.proofs.lemmas.List.{length-map}
-use Rattle.std.proofs.lemmas.List.Elements.{Contains-get_or, All-contains, All-head, All-tail}
-use Rattle.std.proofs.lemmas.List.Kept.{AllPairs-from_increasing}
-use Rattle.std.specs.Prelude.{All, Option, None, ℤ, sum_by, count_by, Result, IfOk, Vec}
+use Rattle.std.proofs.lemmas.List.{length-map, get_or_append_left, get_or-append-add}
+use Rattle.std.proofs.Math.Path.{fun_ext}
+use Rattle.std.proofs.lemmas.List.Elements.{Contains-get_or, All-nil, All-cons, All-contains, All-head, All-tail}
+use Rattle.std.specs.Prelude.{All, Option, ℤ, Result, IfOk, Vec}
 use Rattle.std.specs.Global.{Global}
 use Rattle.std.proofs.lemmas.Result.{IfOk-weaker}
 use Rattle.ofit_num.specs.declared.frac.Frac.{Frac}
 use Rattle.ofit_num.specs.Fit.{LeastBestValues}
-use Rattle.std.specs.List.{Contains}
+use Rattle.std.specs.List.{Any, Contains}
 use Rattle.std.specs.List.Sorted.{IsStrictlyIncreasing}
 use Rattle.ofit_num.specs.declared.row.Row.{Row}
-use Rattle.ofit_num.specs.Problem.{Problem, Bounds, no_bounds}
+use Rattle.ofit_num.specs.Problem.{Problem, Bounds, problem_of, no_bounds}
 use Rattle.ofit_num.specs.Meaning.{Meaning}
 use Rattle.ofit_num.specs.Law.{HasScaling}
 use Rattle.ofit_num.specs.Limits.{all_rows}
-use Rattle.ofit_order.specs.Relation.{Relation}
+use Rattle.ofit_num.proofs.Pigeonhole.{distinct_few}
+use Rattle.ofit_order.specs.Relation.{Relation, ComesBefore}
 use Rattle.ofit_order.specs.Connection.{LeadsUp, Joins}
 use Rattle.ofit_order.specs.Component.{HasComponent, IsComponentOf, AreMembers}
 use Rattle.ofit_order.proofs.Walks.{IsReached-refl}
 use Rattle.ofit_order.proofs.Increasing.{increasing_same}
 use Rattle.ofit_order.proofs.Forming.{member_inside}
 use Rattle.ofit_loss.specs.Laws.{HasLossLaws}
-use Rattle.ofit_loss.specs.Rows.{AreFittable, special_count}
+use Rattle.ofit_loss.specs.Rows.{AreFittable, IsPlain, special_count}
 use Rattle.ofit_loss.proofs.ProblemLaws.{groups_fittable, problem_scaling}
-use Rattle.ofit_study.specs.Study.{Study, IsValid, names_of, rows_named, groups_of, places_of, bounds_of, problem_stated, most_rows}
+use Rattle.ofit_study.specs.Study.{Study, IsValid, names_of, rows_named, groups_of, places_of, place_among, problem_stated, most_rows}
 use Rattle.ofit_study.proofs.Stating.{rows_within, numbers_within, groups_filled}
 use Rattle.ofit_fit.specs.Part.{part_of, IsOrderOf}
-use Rattle.ofit_fit.specs.Piece.{IsFittable, ArePlaces}
+use Rattle.ofit_fit.specs.Piece.{IsFittable, ArePlaces, IsUnbounded, free_problem}
 use Rattle.ofit_fit.proofs.Closed.{IsClosed, distinct_from_increasing}
 
 module _ (s : Study) (order : Relation) (fit : IsFittable s order) where
-  pub free : (g : ℕ) → (problem_stated s).bounds g ≡ no_bounds g
-  free g = ap₂ (λ (l h : Option ℤ). bounds l h) fit.unbounded.lo fit.unbounded.hi where
-    bounds : Option ℤ → Option ℤ → Bounds
-    bounds l h = record { lo = l; hi = h }
+  pub scaling : (m : Meaning) (strict : _) → HasLossLaws m strict → HasScaling m (free_problem s)
+  scaling m strict laws = problem_scaling m strict laws (free_problem s) (groups_fittable (groups_of s) (places_of s) no_bounds fit.fittable)
 
-  pub scaling : (m : Meaning) (strict : _) → HasLossLaws m strict → HasScaling m (problem_stated s)
-  scaling m strict laws = problem_scaling m strict laws (problem_stated s) (groups_fittable (groups_of s) (places_of s) (bounds_of s.settings) fit.fittable)
-
-  pub places_closed : (members : List ℕ) → ArePlaces s order members → IsClosed (problem_stated s) members
+  pub places_closed : (members : List ℕ) → ArePlaces s order members → IsClosed (free_problem s) members
   places_closed members are = record {
     distinct = distinct_from_increasing members are.rising;
     inside = λ p h. All-contains (λ g. g < length (groups_of s)) members p are.inside h;
@@ -59,6 +55,48 @@ none_special (r ∷ rows) h =
   where
     lower : (n : ℕ) → n ≤ 100000 → nat_lt 4294967293 n ≡ false
     lower n l = grind (arith, nat_tests)
+
+-- the study without its bounds is the study, where it has none
+pub without_bounds : (s : Study) → IsUnbounded s.settings → free_problem s ≡ problem_stated s
+without_bounds s free = ap (problem_of (groups_of s) (places_of s)) (fun_ext (λ g. sym (ap₂ (λ (l h : Option ℤ). bounds l h) free.lo free.hi))) where
+  bounds : Option ℤ → Option ℤ → Bounds
+  bounds l h = record { lo = l; hi = h }
+
+-- each row of a valid study is an observation
+some_plain : (rows : List Row) → 0 < length rows → All (λ r. r.number ≤ most_rows) rows → Any IsPlain rows
+some_plain [] some low = absurd (omega arith)
+some_plain (r ∷ rows) some low = (0, r, omega arith, refl, omega (arith, All-head (λ (r : Row). r.number ≤ most_rows) r rows low))
+
+plain_groups : (groups : List (List Row)) → All (λ rows. 0 < length rows) groups → All (λ r. r.number ≤ most_rows) (all_rows groups) → All (λ rows. Any IsPlain rows) groups
+plain_groups [] filled low = All-nil (λ (rows : List Row). Any IsPlain rows)
+plain_groups (rows ∷ groups) filled low = All-cons (λ (rows : List Row). Any IsPlain rows) rows groups
+    (some_plain rows (All-head (λ (rows : List Row). 0 < length rows) rows groups filled) (λ k d l. front k d l))
+    (plain_groups groups (All-tail (λ (rows : List Row). 0 < length rows) rows groups filled) (λ k d l. back k d l)) where
+      front : All (λ r. r.number ≤ most_rows) rows
+      front k d l = subst (λ (r : Row). r.number ≤ most_rows) (get_or_append_left rows (all_rows groups) d k l) (low k d (omega (arith, l, length-append rows (all_rows groups))))
+
+      back : All (λ r. r.number ≤ most_rows) (all_rows groups)
+      back k d l = subst (λ (r : Row). r.number ≤ most_rows) (get_or-append-add rows (all_rows groups) k d) (low (length rows + k) d (omega (arith, l, length-append rows (all_rows groups))))
+
+before_apart : (e f : ℕ × ℕ) → ComesBefore e f → e ≡ f → ⊥
+before_apart e f (inl l) same = omega (arith, l, ap (λ (p : ℕ × ℕ). p.0) same)
+before_apart e f (inr l) same = omega (arith, l.1, ap (λ (p : ℕ × ℕ). p.1) same)
+
+-- a valid study can be fitted by its order
+pub study_fittable : (s : Study) (order : Relation) → IsValid s → IsOrderOf order (problem_stated s) → IsFittable s order
+study_fittable s order valid of = record {
+  of = of;
+  filled = groups_filled s;
+  plain = plain_groups (groups_of s) (groups_filled s) (numbers_within s valid);
+  fittable = record { limits = rows_within s valid; special = omega (arith, none_special (all_rows (groups_of s)) (numbers_within s valid)) };
+  few_groups = omega (arith, valid.groups, length-map (names_of s) (rows_named s.rows));
+  few_pairs = omega (
+    arith,
+    valid.pairs,
+    distinct_few order.pairs (places_of s) (λ i j d l b. before_apart _ _ (of.in_order i j d l b)) (λ e h. (of.pairs e).0 h),
+    length-map {B = ℕ × ℕ} s.pairs (λ e. (place_among (names_of s) e.0, place_among (names_of s) e.1)),
+  );
+}
 
 pub all_fittable : (s : Study) → IsValid s → AreFittable (all_rows (groups_of s))
 all_fittable s v = record { limits = rows_within s v; special = omega (arith, none_special (all_rows (groups_of s)) (numbers_within s v)) }

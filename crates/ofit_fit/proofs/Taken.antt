@@ -1,12 +1,12 @@
 -- The rows of some of the groups are within the limits of all rows.
-use Rattle.std.proofs.Common.{◌≡◌, ℕ, zero, suc, ◌+◌, ◌<◌, ◌≤◌, refl, sym, ap, subst, ◌∙◌, arith, Bool, true, false, cond, nat_lt, List, [], ◌∷◌, ◌++◌, length, map, slice_index}
+use Rattle.std.proofs.Common.{◌≡◌, ℕ, zero, suc, ◌+◌, ◌<◌, ◌≤◌, refl, arith, Bool, true, false, cond, nat_lt, List, [], ◌∷◌, length, map, slice_index}
 use Rattle.std.proofs.lemmas.List.Sums.{sum_by-append}
 use Rattle.std.proofs.lemmas.List.Elements.{All-nil, All-cons, All-head, All-tail, All-append}
-use Rattle.std.specs.Prelude.{All, sum_by, slice_get, Some, unwrap_or, Option}
+use Rattle.std.specs.Prelude.{All, sum_by, slice_get, Some, unwrap_or}
 use Rattle.ofit_num.specs.declared.row.Row.{Row}
 use Rattle.ofit_num.specs.Fit.{sum_below}
 use Rattle.ofit_num.specs.Limits.{IsRowWithinLimits, all_rows}
-use Rattle.ofit_num.proofs.Sums.{sum_below-mono, sum_below-same}
+use Rattle.ofit_num.proofs.Sums.{sum_below-mono}
 use Rattle.ofit_num.proofs.Lists.{All-slice_get}
 use Rattle.ofit_loss.specs.Rows.{AreFittable}
 use Rattle.ofit_loss.proofs.ProblemLaws.{group_fittable}

@@ -1,10 +1,10 @@
 -- The groups of a tree with their parents make the component's part.
-use Rattle.std.proofs.Common.{◌≡◌, ◌≢◌, ℕ, zero, suc, ◌+◌, ◌<◌, ◌≤◌, ◌⊎◌, refl, sym, ap, subst, ◌∙◌, arith, inl, inr, List, [], ◌∷◌, length, get_or, map, slice_index, ◌↔◌}
+use Rattle.std.proofs.Common.{◌≡◌, ◌≢◌, ℕ, suc, ◌<◌, ◌⊎◌, refl, sym, ap, subst, ◌∙◌, arith, inl, inr, List, [], ◌∷◌, length, map, slice_index, ◌↔◌}
 use Rattle.std.proofs.lemmas.Bool.{cases_order}
 use Rattle.std.proofs.lemmas.List.{get_or-map, length-map}
 use Rattle.std.proofs.lemmas.List.Elements.{All-contains, All-contains_itself}
 use Rattle.std.proofs.lemmas.Option.{unwrap_or-slice_get, slice_get-get_or, slice_get_within, get_or_from_slice_get}
-use Rattle.std.specs.Prelude.{slice_get, Some, None, unwrap_or, Option}
+use Rattle.std.specs.Prelude.{slice_get, Some, None, Option}
 use Rattle.std.specs.List.{Contains}
 use Rattle.ofit_num.specs.Problem.{Problem, no_bounds}
 use Rattle.ofit_num.specs.Meaning.{Meaning}
@@ -16,14 +16,13 @@ use Rattle.ofit_order.specs.Shape.{LeadsDown, LeadsOnce, RunsTo}
 use Rattle.ofit_tree.specs.declared.direction.Direction.{Direction}
 use Rattle.ofit_tree.specs.declared.direction.Direction.TheVariants.{RootGreatest, RootLeast}
 use Rattle.ofit_tree.specs.Tree.{pair_of, tree_pairs, tree_problem, IsParent, Climbs, IsRootedTree}
-use Rattle.ofit_tree.proofs.Pairs.{pair_at, each_pair, places}
+use Rattle.ofit_tree.proofs.Pairs.{pair_at, each_pair}
 use Rattle.ofit_fit.specs.Part.{pairs_by_position, part_of}
 use Rattle.ofit_fit.specs.Links.{IsLink, AreLinks, link_at}
 use Rattle.ofit_fit.specs.Direct.{Leads}
 use Rattle.ofit_fit.proofs.Places.{HasPlace, IsDistinct}
 use Rattle.ofit_fit.proofs.Parts.{IsPart, part_scaling}
 use Rattle.ofit_fit.proofs.Closed.{IsClosed, place_from_contains, contains_from_place, by_position_kept, by_position_all, part_of-IsPart}
-use Rattle.ofit_fit.proofs.Picked.{Picks}
 use Rattle.ofit_fit.proofs.ChainParts.{values_back}
 
 -- a link is what the list has at its index

@@ -1,14 +1,14 @@
 -- What is best, or least best, for each of the parts into which a problem falls is so for the problem.
-use Rattle.std.proofs.Common.{◌≡◌, ℕ, zero, suc, ◌+◌, ◌*◌, ◌^◌, ◌<◌, ◌≤◌, ap, sym, subst, ◌∙◌, arith, get_or, List}
+use Rattle.std.proofs.Common.{◌≡◌, ℕ, ◌*◌, ◌^◌, ◌<◌, ◌≤◌, ap, sym, subst, ◌∙◌, arith, get_or, List}
 use Rattle.std.proofs.lemmas.Int.{ints}
 use Rattle.std.proofs.lemmas.List.Elements.{Contains-get_or, All-contains}
-use Rattle.std.specs.Prelude.{ℤ, pos, ◌*ℤ◌, ◌≤ℤ◌, IfSome}
+use Rattle.std.specs.Prelude.{pos, ◌*ℤ◌, ◌≤ℤ◌, IfSome}
 use Rattle.std.specs.List.{Contains}
 use Rattle.ofit_num.specs.declared.row.Row.{Row}
 use Rattle.ofit_num.specs.Problem.{Problem, Bounds, HasPlaces}
 use Rattle.ofit_num.specs.Meaning.{Meaning}
 use Rattle.ofit_num.specs.Trial.{Trial}
-use Rattle.ofit_num.specs.Fit.{Obeys, trial_cost, sum_below, NoDearer, Best, LeastBest}
+use Rattle.ofit_num.specs.Fit.{Obeys, trial_cost, sum_below, Best, LeastBest}
 use Rattle.ofit_num.specs.Law.{HasScaling}
 use Rattle.ofit_num.proofs.Sums.{sum_below-same, sum_below-scale, sum_below-mono}
 use Rattle.ofit_fit.proofs.Places.{HasPlace, sum_parts}

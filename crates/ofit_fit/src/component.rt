@@ -1,13 +1,13 @@
 ghost use Rattle.std.specs.Prelude.{◌≡◌, ◌+◌, ◌-◌, ◌<◌, ◌^◌, ℕ, IfOk, List};
 ghost use Rattle.ofit_num.specs.Fit.{LeastBestValues};
 ghost use Rattle.ofit_order.specs.Component.{HasComponent, AreMembers};
-ghost use Rattle.ofit_order.specs.Form.{HasForm};
-ghost use Rattle.ofit_order.specs.declared.form.Form.{Form as Shaped};
 ghost use Rattle.ofit_study.specs.Study.{problem_stated, meaning_of};
 ghost use Rattle.ofit_fit.specs.Part.{part_of, IsOrderOf};
-ghost use Rattle.ofit_fit.specs.Piece.{IsFittable, IsUnbounded, IsPooled};
+ghost use Rattle.ofit_fit.specs.Piece.{IsFittable, IsUnbounded, free_problem};
+ghost use Rattle.ofit_fit.specs.Counted.{CountsCut};
 
 use crate::chain::fit_as_chain;
+use crate::general::fit_by_cuts;
 use crate::tree::fit_as_tree;
 use ofit_loss::{Loss, Median, Squares};
 use ofit_num::{Frac, Tally};
@@ -22,12 +22,15 @@ fn fit_form<L: Loss>(
     study: &Study,
     order: &Order,
     component: u32,
+    tally: &mut Tally,
 ) -> Result<Vec<Frac>, AllocError>
     requires study { IsFittable study.now order.now }
     requires component { HasComponent order.now component }
-    requires form { (form : Shaped) → HasForm order.now component form → IsPooled form }
-    ensures { IfOk result (λ values. (members : List ℕ) → AreMembers order.now component members
-        → LeastBestValues L.meaning (part_of (problem_stated study.now) members) values.items) }
+    requires room { tally.old.cuts < 2 ^ 64 - 1 }
+    ensures least_best { IfOk result (λ values. (members : List ℕ) → AreMembers order.now component members
+        → LeastBestValues L.meaning (part_of (free_problem study.now) members) values.items) }
+    ensures cuts { CountsCut order.now component result tally.old.cuts tally.new.cuts }
+    ensures fits { tally.new.fits ≡ tally.old.fits }
 {
     let _groups = study.group_count();
     let members = order.members(component);
@@ -35,14 +38,16 @@ fn fit_form<L: Loss>(
         Form::Chain => fit_as_chain::<L>(alloc, study, order, members),
         Form::TreeUp => fit_as_tree::<L>(alloc, study, order, members, Direction::RootGreatest),
         Form::TreeDown => fit_as_tree::<L>(alloc, study, order, members, Direction::RootLeast),
-        Form::General => unreachable!(),
+        Form::General => fit_by_cuts::<L>(alloc, study, order, members, tally),
     }
 }
 
 /// The least-cost values of one component of the study's order, one for each member in the members'
-/// order, and of these the pointwise least. The tally counts the fit, whatever the answer.
+/// order, and of these the pointwise least. The tally counts the fit, whatever the answer, and beside
+/// it a fit by cuts, where the component is neither a chain nor a rooted tree; there want of memory may
+/// come before the cut is counted.
 ///
-/// For n members among m pairs it takes O(n log m) time and the time of the fit.
+/// For n members with m pairs it takes O((n + m) log m) time and the time of the fit.
 pub fn fit_component(
     alloc: Global,
     study: &Study,
@@ -52,17 +57,18 @@ pub fn fit_component(
 ) -> Result<Vec<Frac>, AllocError>
     requires order { IsOrderOf order.now (problem_stated study.now) }
     requires component { HasComponent order.now component }
-    requires form { (form : Shaped) → HasForm order.now component form → IsPooled form }
     requires unbounded { IsUnbounded study.now.settings }
     requires room { tally.old.fits < 2 ^ 64 - 1 }
-    ensures counted { tally.new ≡ record tally.old { fits = tally.old.fits + 1 } }
+    requires room_for_cuts { tally.old.cuts < 2 ^ 64 - 1 }
+    ensures counted { tally.new.fits ≡ tally.old.fits + 1 }
+    ensures cuts { CountsCut order.now component result tally.old.cuts tally.new.cuts }
     ensures least_best { IfOk result (λ values. (members : List ℕ) → AreMembers order.now component members
         → LeastBestValues (meaning_of study.now.settings.loss) (part_of (problem_stated study.now) members) values.items) }
 {
     tally.note_fit();
     let _groups = study.group_count();
     match study.settings().loss {
-        LossKind::Squares => fit_form::<Squares>(alloc, study, order, component),
-        LossKind::Median => fit_form::<Median>(alloc, study, order, component),
+        LossKind::Squares => fit_form::<Squares>(alloc, study, order, component, tally),
+        LossKind::Median => fit_form::<Median>(alloc, study, order, component, tally),
     }
 }

@@ -3,7 +3,7 @@
 
 mod chain;
 mod component;
-mod forms;
+mod general;
 mod laws;
 mod links;
 mod members;
@@ -12,7 +12,6 @@ mod tree;
 mod values;
 
 pub use component::fit_component;
-pub use forms::has_pooled_forms;
 pub use laws::fits_compose;
 pub use study::fit_study;
 

@@ -4,7 +4,7 @@ ghost use Rattle.std.specs.List.Sorted.{IsStrictlyIncreasing};
 ghost use Rattle.ofit_order.specs.Relation.{AreInOrder};
 ghost use Rattle.ofit_order.specs.Connection.{LeadsUp};
 ghost use Rattle.ofit_order.specs.Shape.{LeadsDown};
-ghost use Rattle.ofit_fit.specs.Links.{IsLink, AreLinks, AreLinkedBack};
+ghost use Rattle.ofit_fit.specs.Links.{IsLink, IsRun, AreLinks, AreLinkedBack};
 
 use std::alloc::{AllocError, Global};
 
@@ -29,9 +29,10 @@ fn end_of(pairs: &[(u32, u32)], place: u32) -> usize
 }
 
 /// The pairs that lead up from a place, by binary search.
-fn pairs_above(pairs: &[(u32, u32)], place: u32) -> &[(u32, u32)]
+pub(crate) fn pairs_above(pairs: &[(u32, u32)], place: u32) -> &[(u32, u32)]
     requires { AreInOrder pairs.now }
-    ensures { (e : ℕ × ℕ) → Contains result.now e ↔ (Contains pairs.now e × (e.0 ≡ place)) }
+    ensures above { (e : ℕ × ℕ) → Contains result.now e ↔ (Contains pairs.now e × (e.0 ≡ place)) }
+    ensures run { IsRun pairs.now place (length result.now) }
 {
     let start = start_of(pairs, place);
     let end = end_of(pairs, place);
@@ -39,7 +40,7 @@ fn pairs_above(pairs: &[(u32, u32)], place: u32) -> &[(u32, u32)]
 }
 
 /// Where a place stands among the members.
-fn position_of(members: &[u32], place: u32) -> u32
+pub(crate) fn position_of(members: &[u32], place: u32) -> u32
     requires rising { IsStrictlyIncreasing members.now }
     requires few { length members.now < 2 ^ 32 }
     requires member { Contains members.now place }

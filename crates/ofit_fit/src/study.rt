@@ -2,8 +2,8 @@ ghost use Rattle.std.specs.Prelude.{◌≡◌, ◌+◌, ◌≤◌, ◌^◌, ℕ,
 ghost use Rattle.ofit_num.specs.Fit.{LeastBestValues};
 ghost use Rattle.ofit_study.specs.Study.{groups_of, problem_stated, meaning_of};
 ghost use Rattle.ofit_fit.specs.Part.{IsOrderOf};
-ghost use Rattle.ofit_fit.specs.Piece.{IsUnbounded, HasPooledForms};
-ghost use Rattle.ofit_fit.specs.Counted.{HasComponentCount};
+ghost use Rattle.ofit_fit.specs.Piece.{IsUnbounded};
+ghost use Rattle.ofit_fit.specs.Counted.{HasComponentCount, HasCutCount};
 
 use crate::component::fit_component;
 use crate::values::put_values;
@@ -32,14 +32,16 @@ fn fit_components(
 ) -> Result<Vec<Frac>, AllocError>
     requires order { IsOrderOf order.now (problem_stated study.now) }
     requires as_long { vec_len fitted ≡ length (groups_of study.now) }
-    requires forms { HasPooledForms study.now }
     requires unbounded { IsUnbounded study.now.settings }
     requires room { tally.old.fits ≤ 2 ^ 63 }
+    requires room_for_cuts { tally.old.cuts ≤ 2 ^ 63 }
     ensures least_best { IfOk result (λ values. LeastBestValues (meaning_of study.now.settings.loss) (problem_stated study.now) values.items) }
-    ensures counted { OnOk result ((n : ℕ) × HasComponentCount (problem_stated study.now) n × (tally.new ≡ record tally.old { fits = tally.old.fits + n })) }
+    ensures counted { OnOk result ((n : ℕ) × HasComponentCount (problem_stated study.now) n × (tally.new.fits ≡ tally.old.fits + n)) }
     ensures limited { OnErr result ((n : ℕ) → HasComponentCount (problem_stated study.now) n → tally.new.fits ≤ tally.old.fits + n) }
     ensures grown { tally.old.fits ≤ tally.new.fits }
-    ensures cuts { tally.new.cuts ≡ tally.old.cuts }
+    ensures cuts { OnOk result ((n : ℕ) × HasCutCount (problem_stated study.now) n × (tally.new.cuts ≡ tally.old.cuts + n)) }
+    ensures limited_cuts { OnErr result ((n : ℕ) → HasCutCount (problem_stated study.now) n → tally.new.cuts ≤ tally.old.cuts + n) }
+    ensures grown_cuts { tally.old.cuts ≤ tally.new.cuts }
 {
     let _groups = study.group_count();
     for component in 0..order.component_count() {
@@ -50,16 +52,18 @@ fn fit_components(
 }
 
 /// The least-cost values of the study, one for each group in the groups' order, and of these the
-/// pointwise least. The tally counts each component that is fitted.
+/// pointwise least. The tally counts each component that is fitted, and each that is fitted by cuts.
 pub fn fit_study(alloc: Global, study: &Study, tally: &mut Tally) -> Result<Vec<Frac>, AllocError>
-    requires forms { HasPooledForms study.now }
     requires unbounded { IsUnbounded study.now.settings }
     requires room { tally.old.fits ≤ 2 ^ 63 }
+    requires room_for_cuts { tally.old.cuts ≤ 2 ^ 63 }
     ensures least_best { IfOk result (λ values. LeastBestValues (meaning_of study.now.settings.loss) (problem_stated study.now) values.items) }
-    ensures counted { OnOk result ((n : ℕ) × HasComponentCount (problem_stated study.now) n × (tally.new ≡ record tally.old { fits = tally.old.fits + n })) }
+    ensures counted { OnOk result ((n : ℕ) × HasComponentCount (problem_stated study.now) n × (tally.new.fits ≡ tally.old.fits + n)) }
     ensures limited { OnErr result ((n : ℕ) → HasComponentCount (problem_stated study.now) n → tally.new.fits ≤ tally.old.fits + n) }
     ensures grown { tally.old.fits ≤ tally.new.fits }
-    ensures cuts { tally.new.cuts ≡ tally.old.cuts }
+    ensures cuts { OnOk result ((n : ℕ) × HasCutCount (problem_stated study.now) n × (tally.new.cuts ≡ tally.old.cuts + n)) }
+    ensures limited_cuts { OnErr result ((n : ℕ) → HasCutCount (problem_stated study.now) n → tally.new.cuts ≤ tally.old.cuts + n) }
+    ensures grown_cuts { tally.old.cuts ≤ tally.new.cuts }
 {
     let order = study.order(alloc)?;
     let values = zeros(alloc, study.group_count())?;

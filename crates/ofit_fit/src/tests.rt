@@ -1,17 +1,20 @@
-mod paths;
-mod shapes;
+mod plain;
+mod random;
 
-use crate::{fit_component, fit_study, fits_compose, has_pooled_forms};
+use crate::fit_study;
 use ofit_num::{Frac, Tally};
 use ofit_study::{LossKind, Settings, Study, is_name};
 use std::alloc::Global;
 use std::test::Fail;
 
-/// The study of these rows, each of weight 1, and these pairs of places.
+/// A row of the group A, B, C, .. at a place: the place, the value and the weight.
+pub(crate) type Weighed = (u32, i64, u64);
+
+/// The study of these rows and these pairs of places.
 pub(crate) fn study_of(
     alloc: Global,
     loss: LossKind,
-    rows: &[(&[u8], i64)],
+    rows: &[Weighed],
     pairs: &[(u32, u32)],
 ) -> Result<Study, Fail> {
     let settings = Settings {
@@ -21,11 +24,12 @@ pub(crate) fn study_of(
         hi: None,
     };
     let mut study = Study::empty(alloc, settings);
-    for (name, value) in rows {
-        if !is_name(name) || value.unsigned_abs() > 1000 {
+    for (place, value, weight) in rows {
+        let name = [b'A' + (*place % 26) as u8];
+        if !is_name(&name) || value.unsigned_abs() > 1000 || *weight < 1 || *weight > 1000 {
             return Err(Fail::from("a row beyond the limits"));
         }
-        study.add_row(name, *value, 1)?;
+        study.add_row(&name, *value, *weight)?;
     }
     let count = study.group_count();
     if pairs.len() > 100 || !pairs.iter().all(|pair| pair.0 < count && pair.1 < count) {
@@ -34,95 +38,159 @@ pub(crate) fn study_of(
     Ok(study.with_pairs(pairs)?)
 }
 
-/// The study's values, with the tally that counts its components.
+/// The study's values.
 pub(crate) fn fitted(alloc: Global, study: &Study, tally: &mut Tally) -> Result<Vec<Frac>, Fail> {
     let settings = study.settings();
     if settings.lo.is_some() || settings.hi.is_some() {
         return Err(Fail::from("bounds"));
     }
-    if tally.fits() > 1000 {
+    if tally.fits() > 1000 || tally.cuts() > 1000 {
         return Err(Fail::from("too many fits"));
     }
-    let pooled = has_pooled_forms(alloc, study)?;
-    if pooled {
-        Ok(fit_study(alloc, study, tally)?)
-    } else {
-        Err(Fail::from("a general component"))
-    }
+    Ok(fit_study(alloc, study, tally)?)
 }
 
 /// Whether the values are these numerators and denominators.
-pub(crate) fn are(values: &[Frac], wanted: &[(i128, i128)]) -> bool {
+fn are(values: &[Frac], wanted: &[(i128, i128)]) -> bool {
     values.len() == wanted.len()
         && values.iter().zip(wanted).all(|(value, parts)| value.num() == parts.0
             && value.den() == parts.1)
 }
 
+/// Whether groups of these values, each of weight 1, are fitted to the wanted ones, with so many fits
+/// and cuts.
+fn gives(
+    alloc: Global,
+    tally: &mut Tally,
+    loss: LossKind,
+    rows: &[(u32, i64)],
+    pairs: &[(u32, u32)],
+    wanted: &[(i128, i128)],
+    counts: (u64, u64),
+) -> Result<bool, Fail> {
+    let mut weighed = Vec::new(alloc);
+    for (place, value) in rows {
+        weighed.push((*place, *value, 1u64))?;
+    }
+    let study = study_of(alloc, loss, &weighed, pairs)?;
+    let fits = tally.fits();
+    let cuts = tally.cuts();
+    let values = fitted(alloc, &study, tally)?;
+    Ok(
+        are(values.as_slice(), wanted)
+            && tally.fits().wrapping_sub(fits) == counts.0
+            && tally.cuts().wrapping_sub(cuts) == counts.1,
+    )
+}
+
+const DIAMOND: [(u32, u32); 4] = [(0, 1), (0, 2), (1, 3), (2, 3)];
+
 #[test]
-fn a_chain_is_pooled(rt: HostRuntime) -> Result<(), Fail> {
+fn a_diamond_is_cut(rt: HostRuntime) -> Result<(), Fail> {
     let alloc = rt.alloc();
-    let rows: [(&[u8], i64); 3] = [(b"A", 1), (b"B", 3), (b"C", 2)];
-    let study = study_of(alloc, LossKind::Squares, &rows, &[(0, 1), (1, 2)])?;
     let mut tally = Tally::new(&rt);
-    let values = fitted(alloc, &study, &mut tally)?;
-    assert!(rt; are(values.as_slice(), &[(1, 1), (5, 2), (5, 2)]));
-    assert_eq!(rt; (tally.fits(), tally.cuts()), (1, 0));
+    for (rows, wanted) in [
+        (
+            [(0, 4), (1, 1), (2, 3), (3, 2)],
+            [(5, 2), (5, 2), (5, 2), (5, 2)],
+        ),
+        (
+            [(0, 1), (1, 5), (2, 0), (3, 3)],
+            [(1, 2), (4, 1), (1, 2), (4, 1)],
+        ),
+    ] {
+        assert!(rt;
+            gives(
+                alloc,
+                &mut tally,
+                LossKind::Squares,
+                &rows,
+                &DIAMOND,
+                &wanted,
+                (1, 1)
+            )?
+        );
+    }
     Ok(())
 }
 
 #[test]
-fn a_chain_against_the_order_of_places(rt: HostRuntime) -> Result<(), Fail> {
-    let alloc = rt.alloc();
-    let rows: [(&[u8], i64); 4] = [(b"A", 9), (b"B", 2), (b"C", 6), (b"D", 7)];
-    let study = study_of(alloc, LossKind::Squares, &rows, &[(2, 1), (1, 0), (0, 3)])?;
+fn medians_on_a_diamond_are_least(rt: HostRuntime) -> Result<(), Fail> {
+    let rows = [(0, 1), (0, 5), (1, 1), (2, 5), (3, 1), (3, 5)];
+    let wanted = [(1, 1), (1, 1), (5, 1), (5, 1)];
     let mut tally = Tally::new(&rt);
-    let values = fitted(alloc, &study, &mut tally)?;
-    assert!(rt; are(values.as_slice(), &[(8, 1), (4, 1), (4, 1), (8, 1)]));
+    assert!(rt;
+        gives(
+            rt.alloc(),
+            &mut tally,
+            LossKind::Median,
+            &rows,
+            &DIAMOND,
+            &wanted,
+            (1, 1)
+        )?
+    );
     Ok(())
 }
 
 #[test]
-fn single_groups_are_components(rt: HostRuntime) -> Result<(), Fail> {
-    let alloc = rt.alloc();
-    let rows: [(&[u8], i64); 4] = [(b"A", 3), (b"B", 7), (b"C", 1), (b"B", 8)];
-    let study = study_of(alloc, LossKind::Squares, &rows, &[(0, 2)])?;
+fn a_cycle_has_one_value(rt: HostRuntime) -> Result<(), Fail> {
+    let rows = [(0, 1), (1, 3), (2, 2)];
+    let pairs = [(0, 1), (1, 2), (2, 0)];
+    let wanted = [(2, 1), (2, 1), (2, 1)];
     let mut tally = Tally::new(&rt);
-    let values = fitted(alloc, &study, &mut tally)?;
-    assert!(rt; are(values.as_slice(), &[(2, 1), (15, 2), (2, 1)]));
-    assert_eq!(rt; (tally.fits(), tally.cuts()), (2, 0));
-    let again = fitted(alloc, &study, &mut tally)?;
-    assert_eq!(rt; (again.len(), tally.fits()), (3, 4));
+    assert!(rt;
+        gives(
+            rt.alloc(),
+            &mut tally,
+            LossKind::Squares,
+            &rows,
+            &pairs,
+            &wanted,
+            (1, 1)
+        )?
+    );
     Ok(())
 }
 
 #[test]
-fn medians_take_row_values(rt: HostRuntime) -> Result<(), Fail> {
-    let alloc = rt.alloc();
-    let rows: [(&[u8], i64); 4] = [(b"A", 5), (b"B", 3), (b"B", 7), (b"C", 6)];
-    let study = study_of(alloc, LossKind::Median, &rows, &[(0, 1), (1, 2)])?;
+fn components_are_counted_by_their_forms(rt: HostRuntime) -> Result<(), Fail> {
+    let rows = [
+        (0, 1),
+        (1, 5),
+        (2, 0),
+        (3, 3),
+        (4, 3),
+        (5, 1),
+        (6, 5),
+        (7, 6),
+        (8, 10),
+        (9, 7),
+    ];
+    let pairs = [(0, 1), (0, 2), (1, 3), (2, 3), (4, 5), (7, 6), (8, 6)];
+    let wanted = [
+        (1, 2),
+        (4, 1),
+        (1, 2),
+        (4, 1),
+        (2, 1),
+        (2, 1),
+        (15, 2),
+        (6, 1),
+        (15, 2),
+        (7, 1),
+    ];
     let mut tally = Tally::new(&rt);
-    let values = fitted(alloc, &study, &mut tally)?;
-    assert!(rt; are(values.as_slice(), &[(5, 1), (5, 1), (6, 1)]));
-    Ok(())
-}
-
-#[test]
-fn no_groups_have_no_values(rt: HostRuntime) -> Result<(), Fail> {
-    let alloc = rt.alloc();
-    let rows: [(&[u8], i64); 0] = [];
-    let study = study_of(alloc, LossKind::Squares, &rows, &[])?;
-    let mut tally = Tally::new(&rt);
-    let values = fitted(alloc, &study, &mut tally)?;
-    assert_eq!(rt; (values.len(), tally.fits()), (0, 0));
-    Ok(())
-}
-
-#[test]
-fn a_cycle_is_told(rt: HostRuntime) -> Result<(), Fail> {
-    let alloc = rt.alloc();
-    let rows: [(&[u8], i64); 2] = [(b"A", 1), (b"B", 3)];
-    let cycle = study_of(alloc, LossKind::Squares, &rows, &[(0, 1), (1, 0)])?;
-    assert!(rt; !has_pooled_forms(alloc, &cycle)?);
-    fits_compose(&cycle.order(alloc)?);
+    assert!(rt;
+        gives(
+            rt.alloc(),
+            &mut tally,
+            LossKind::Squares,
+            &rows,
+            &pairs,
+            &wanted,
+            (4, 1)
+        )?
+    );
     Ok(())
 }

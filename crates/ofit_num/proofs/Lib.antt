@@ -52,3 +52,4 @@ pub mod Clipped
 pub mod ClippedValues
 pub mod ClippedTable
 pub mod SettledEqual
+pub mod Pigeonhole

@@ -1,6 +1,6 @@
-use Rattle.std.proofs.Common.{ℕ, ◌≡◌, ◌<◌, ◌↔◌, arith, List, map, length, slice_index, subst, sym, ap, ◌∙◌}
+use Rattle.std.proofs.Common.{ℕ, refl, ◌↔◌, arith, List, map, slice_index, subst, sym, ◌∙◌}
 use Rattle.std.proofs.lemmas.Result.{IfOk-weaker}
-use Rattle.std.specs.Prelude.{All, Vec}
+use Rattle.std.specs.Prelude.{Vec}
 use Rattle.std.specs.Global.{Global}
 use Rattle.std.specs.List.{Contains}
 use Rattle.ofit_num.specs.Fraction.{Fraction}
@@ -10,12 +10,11 @@ use Rattle.ofit_order.specs.Relation.{AreInOrder}
 use Rattle.ofit_order.specs.Connection.{LeadsUp}
 use Rattle.ofit_order.specs.Shape.{IsChainOf}
 use Rattle.ofit_chain.specs.Chain.{chain_problem}
-use Rattle.ofit_study.specs.Study.{problem_stated}
-use Rattle.ofit_fit.specs.Part.{position_among}
 use Rattle.ofit_fit.specs.Put.{ArePut}
 use Rattle.ofit_fit.proofs.Closed.{distinct_from_increasing}
 use Rattle.ofit_fit.proofs.Chained.{path_count, path_inside, path_once, path_distinct, chained}
-use Rattle.ofit_fit.proofs.Ready.{free, scaling, places_closed}
+use Rattle.ofit_fit.specs.Piece.{free_problem}
+use Rattle.ofit_fit.proofs.Ready.{scaling, places_closed}
 use Rattle.ofit_fit.proofs.chain.fit_as_chain.Goals as goal
 
 pub path_of-requires-clause-in_order : goal.path_of-requires-clause-in_order
@@ -62,7 +61,7 @@ values_put-requires-clause-distinct g c =
 
 pub returns : goal.returns
 returns g c =
-    let s = problem_stated c.args.study.now in
+    let s = free_problem c.args.study.now in
     let members = c.args.members.now in
     let list = c.requires.chain.0 in
     let chain = subst (λ (ps : List (ℕ × ℕ)). IsChainOf ps members list) (sym c.pairs.ensures) c.requires.chain.1 in
@@ -74,6 +73,6 @@ returns g c =
     IfOk-weaker c.values_put.result _ _
     (λ (fitted : Vec Frac Global) (put : ArePut c.as_slice-2.result.now c.as_slice-3.result.now c.as_slice-3.result.now fitted.items).
     chained c.pairs.result.now members list (distinct_from_increasing members c.requires.places.rising) chain c.as_slice-2.result.now is g.L.Loss.meaning s
-    (free c.args.study.now c.args.order.now c.requires.study) same_pairs (places_closed c.args.study.now c.args.order.now c.requires.study members c.requires.places)
+    (λ g. refl) same_pairs (places_closed c.args.study.now c.args.order.now c.requires.study members c.requires.places)
     (scaling c.args.study.now c.args.order.now c.requires.study g.L.Loss.meaning g.L.Loss.STRICT g.met.L.Loss.laws) c.as_slice-3.result.now fitted.items low put)
     c.values_put.ensures

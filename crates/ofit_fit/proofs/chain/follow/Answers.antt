@@ -1,5 +1,4 @@
-use Rattle.std.proofs.Common.{arith, length, subst, ◌<◌}
-use Rattle.std.specs.Prelude.{Option}
+use Rattle.std.proofs.Common.{arith, length, subst}
 use Rattle.ofit_fit.specs.Links.{IsLinkWithin}
 use Rattle.ofit_fit.proofs.Paths.{followed_none, followed_more, followed_end, followed_all}
 use Rattle.ofit_fit.proofs.chain.follow.Goals as goal

@@ -1,4 +1,4 @@
-use Rattle.std.proofs.Common.{ℕ, ◌≡◌, arith, List, subst, sym, ap, ◌∙◌, length, map}
+use Rattle.std.proofs.Common.{ℕ, ◌≡◌, arith, List, subst, sym, ap, length}
 use Rattle.std.specs.Prelude.{Option, Some, Vec, ◌≤◌}
 use Rattle.std.specs.Global.{Global}
 use Rattle.std.proofs.lemmas.Result.{IfOk-weaker}

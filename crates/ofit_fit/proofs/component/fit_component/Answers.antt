@@ -1,19 +1,32 @@
-use Rattle.ofit_study.proofs.Stating.{groups_filled}
-use Rattle.ofit_fit.proofs.Ready.{all_fittable}
+use Rattle.std.proofs.Common.{rules, ◌≡◌, ℕ, List, subst}
+use Rattle.std.specs.Prelude.{IfOk}
+use Rattle.ofit_num.specs.Problem.{Problem}
+use Rattle.ofit_num.specs.Meaning.{Meaning}
+use Rattle.ofit_num.specs.Loss.{squares, median}
+use Rattle.ofit_num.specs.Fit.{LeastBestValues}
+use Rattle.ofit_order.specs.Component.{AreMembers}
+use Rattle.ofit_study.specs.Study.{meaning_of}
+use Rattle.ofit_fit.specs.Part.{part_of}
+use Rattle.ofit_fit.specs.Piece.{free_problem}
+use Rattle.ofit_fit.proofs.Ready.{study_fittable, without_bounds}
 use Rattle.ofit_fit.proofs.component.fit_component.Goals as goal
 
 pub fit_form-requires-clause-study : goal.fit_form-requires-clause-study
-fit_form-requires-clause-study c = record {
-  of = c.requires.order;
-  filled = groups_filled c.args.study.now;
-  fittable = all_fittable c.args.study.now c.group_count-groups.ensures.valid;
-  unbounded = c.requires.unbounded;
-}
+fit_form-requires-clause-study c = study_fittable c.args.study.now c.args.order.now c.group_count-groups.ensures.valid c.requires.order
 
 pub fit_form-requires-in-Median-clause-study : goal.fit_form-requires-in-Median-clause-study
-fit_form-requires-in-Median-clause-study c = record {
-  of = c.requires.order;
-  filled = groups_filled c.args.study.now;
-  fittable = all_fittable c.args.study.now c.group_count-groups.ensures.valid;
-  unbounded = c.requires.unbounded;
-}
+fit_form-requires-in-Median-clause-study c = study_fittable c.args.study.now c.args.order.now c.group_count-groups.ensures.valid c.requires.order
+
+pub returns-in-Squares-clause-least_best : goal.returns-in-Squares-clause-least_best
+returns-in-Squares-clause-least_best c =
+    let m : Meaning = meaning_of c.args.study.now.settings.loss in
+    let same : squares ≡ m = search rules in
+    subst (λ (p : Problem). IfOk c.fit_form.result (λ values. (members : List ℕ) → AreMembers c.args.order.now c.args.component members → LeastBestValues m (part_of p members) values.items)) (without_bounds c.args.study.now c.requires.unbounded)
+    (subst (λ (l : Meaning). IfOk c.fit_form.result (λ values. (members : List ℕ) → AreMembers c.args.order.now c.args.component members → LeastBestValues l (part_of (free_problem c.args.study.now) members) values.items)) same c.fit_form.ensures.least_best)
+
+pub returns-in-Median-clause-least_best : goal.returns-in-Median-clause-least_best
+returns-in-Median-clause-least_best c =
+    let m : Meaning = meaning_of c.args.study.now.settings.loss in
+    let same : median ≡ m = search rules in
+    subst (λ (p : Problem). IfOk c.fit_form-in-Median.result (λ values. (members : List ℕ) → AreMembers c.args.order.now c.args.component members → LeastBestValues m (part_of p members) values.items)) (without_bounds c.args.study.now c.requires.unbounded)
+    (subst (λ (l : Meaning). IfOk c.fit_form-in-Median.result (λ values. (members : List ℕ) → AreMembers c.args.order.now c.args.component members → LeastBestValues l (part_of (free_problem c.args.study.now) members) values.items)) same c.fit_form-in-Median.ensures.least_best)

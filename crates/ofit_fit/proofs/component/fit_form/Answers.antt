@@ -1,6 +1,4 @@
-use Rattle.std.proofs.Common.{subst}
-use Rattle.ofit_study.specs.Study.{problem_stated}
-use Rattle.ofit_fit.specs.Piece.{IsPooled}
+use Rattle.ofit_fit.specs.Piece.{free_problem}
 use Rattle.ofit_fit.proofs.Ready.{members_places, for_members}
 use Rattle.ofit_fit.proofs.component.fit_form.Goals as goal
 
@@ -19,14 +17,19 @@ fit_as_tree-requires-in-TreeDown-clause-places g c =
     members_places c.args.study.now c.args.order.now c.group_count-groups.ensures.valid c.requires.study.of c.args.component c.members-members.result.now c.requires.component
     c.members-members.ensures.members c.members-members.ensures.closed
 
-pub unreachable-requires : goal.unreachable-requires
-unreachable-requires g c = subst IsPooled c.in-General.is (c.requires.form c.form.result c.form.ensures.form)
+pub fit_by_cuts-requires-clause-places : goal.fit_by_cuts-requires-clause-places
+fit_by_cuts-requires-clause-places g c =
+    members_places c.args.study.now c.args.order.now c.group_count-groups.ensures.valid c.requires.study.of c.args.component c.members-members.result.now c.requires.component
+    c.members-members.ensures.members c.members-members.ensures.closed
 
-pub returns-in-Chain : goal.returns-in-Chain
-returns-in-Chain g c = for_members c.fit_as_chain.result g.L.Loss.meaning (problem_stated c.args.study.now) c.args.order.now c.args.component c.members-members.result.now c.members-members.ensures.members c.fit_as_chain.ensures
+pub returns-in-Chain-clause-least_best : goal.returns-in-Chain-clause-least_best
+returns-in-Chain-clause-least_best g c = for_members c.fit_as_chain.result g.L.Loss.meaning (free_problem c.args.study.now) c.args.order.now c.args.component c.members-members.result.now c.members-members.ensures.members c.fit_as_chain.ensures
 
-pub returns-in-TreeUp : goal.returns-in-TreeUp
-returns-in-TreeUp g c = for_members c.fit_as_tree.result g.L.Loss.meaning (problem_stated c.args.study.now) c.args.order.now c.args.component c.members-members.result.now c.members-members.ensures.members c.fit_as_tree.ensures
+pub returns-in-TreeUp-clause-least_best : goal.returns-in-TreeUp-clause-least_best
+returns-in-TreeUp-clause-least_best g c = for_members c.fit_as_tree.result g.L.Loss.meaning (free_problem c.args.study.now) c.args.order.now c.args.component c.members-members.result.now c.members-members.ensures.members c.fit_as_tree.ensures
 
-pub returns-in-TreeDown : goal.returns-in-TreeDown
-returns-in-TreeDown g c = for_members c.fit_as_tree-in-TreeDown.result g.L.Loss.meaning (problem_stated c.args.study.now) c.args.order.now c.args.component c.members-members.result.now c.members-members.ensures.members c.fit_as_tree-in-TreeDown.ensures
+pub returns-in-TreeDown-clause-least_best : goal.returns-in-TreeDown-clause-least_best
+returns-in-TreeDown-clause-least_best g c = for_members c.fit_as_tree-in-TreeDown.result g.L.Loss.meaning (free_problem c.args.study.now) c.args.order.now c.args.component c.members-members.result.now c.members-members.ensures.members c.fit_as_tree-in-TreeDown.ensures
+
+pub returns-in-General-clause-least_best : goal.returns-in-General-clause-least_best
+returns-in-General-clause-least_best g c = for_members c.fit_by_cuts.result g.L.Loss.meaning (free_problem c.args.study.now) c.args.order.now c.args.component c.members-members.result.now c.members-members.ensures.members c.fit_by_cuts.ensures.least_best

@@ -1,4 +1,4 @@
-use Rattle.std.proofs.Common.{ℕ, arith, rules, subst, sym, ap, List, length}
+use Rattle.std.proofs.Common.{ℕ, arith, rules, subst, sym, List}
 use Rattle.std.specs.Prelude.{Option}
 use Rattle.std.specs.List.{Contains}
 use Rattle.std.proofs.lemmas.List.Elements.{Contains-get_or}
@@ -13,11 +13,11 @@ link_back-requires-clause-as_long c = omega (arith, c.loop-position.invariant.co
 
 pub link_back-requires-clause-inside : goal.link_back-requires-clause-inside
 link_back-requires-clause-inside c = λ a b h.
-    let p = (c.pairs_above.ensures (a, b)).0 h in
+    let p = (c.pairs_above.ensures.above (a, b)).0 h in
     (c.requires.closed a b p.0).0 (subst (Contains c.args.members.now) (sym p.1) (Contains-get_or c.args.members.now c.loop-position.position 0 (omega arith)))
 
 pub loop-position-preserved : goal.loop-position-preserved
-loop-position-preserved c = linked_step c.args.pairs.now c.args.members.now c.pairs_above.result.now c.loop-position.position c.loop-position.links.items c.link_back.new.links.items (omega arith) c.pairs_above.ensures c.link_back.ensures c.loop-position.invariant
+loop-position-preserved c = linked_step c.args.pairs.now c.args.members.now c.pairs_above.result.now c.loop-position.position c.loop-position.links.items c.link_back.new.links.items (omega arith) c.pairs_above.ensures.above c.link_back.ensures c.loop-position.invariant
 
 pub returns : goal.returns
 returns c = linked_down c.args.pairs.now c.args.members.now c.loop-position.position c.loop-position.links.items (omega arith) c.requires.closed c.loop-position.invariant

@@ -1,4 +1,4 @@
-use Rattle.std.proofs.Common.{ℕ, ◌<◌, ◌≤◌, ◌≡◌, arith, inl, inr, length, slice_index}
+use Rattle.std.proofs.Common.{◌<◌, arith, inl, inr, slice_index}
 use Rattle.std.proofs.lemmas.Bool.{cases_order}
 use Rattle.std.proofs.lemmas.List.Sorted.{searched}
 use Rattle.ofit_fit.proofs.Searching.{rises_from_increasing}

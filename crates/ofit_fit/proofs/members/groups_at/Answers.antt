@@ -1,4 +1,4 @@
-use Rattle.std.proofs.Common.{arith, List, [], ap, sym, length, take, map}
+use Rattle.std.proofs.Common.{arith, List, [], ap, sym, length, take}
 use Rattle.std.proofs.lemmas.List.{length-map, length-take}
 use Rattle.std.specs.Prelude.{Option, unwrap_or}
 use Rattle.ofit_num.specs.declared.row.Row.{Row}

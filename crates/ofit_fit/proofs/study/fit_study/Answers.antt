@@ -1,4 +1,4 @@
-use Rattle.std.proofs.Common.{arith, sym, ◌∙◌}
+use Rattle.std.proofs.Common.{sym, ◌∙◌}
 use Rattle.std.proofs.lemmas.List.{length-map}
 use Rattle.ofit_study.specs.Study.{names_of, rows_named}
 use Rattle.ofit_fit.proofs.study.fit_study.Goals as goal

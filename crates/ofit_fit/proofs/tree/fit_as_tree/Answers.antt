@@ -1,4 +1,4 @@
-use Rattle.std.proofs.Common.{ℕ, ◌≡◌, ◌<◌, ◌↔◌, arith, List, map, length, subst, sym, ap, ◌∙◌}
+use Rattle.std.proofs.Common.{ℕ, refl, ◌<◌, ◌↔◌, List, length, subst, sym}
 use Rattle.std.proofs.lemmas.Result.{IfOk-weaker}
 use Rattle.std.specs.Prelude.{All, Vec, Option}
 use Rattle.std.specs.Global.{Global}
@@ -11,13 +11,14 @@ use Rattle.ofit_order.specs.Relation.{AreInOrder}
 use Rattle.ofit_order.specs.Connection.{LeadsUp}
 use Rattle.ofit_order.specs.Shape.{RunsTo}
 use Rattle.ofit_loss.specs.Rows.{AreFittable}
-use Rattle.ofit_study.specs.Study.{groups_of, names_of, rows_named, problem_stated}
+use Rattle.ofit_study.specs.Study.{groups_of}
 use Rattle.ofit_tree.specs.Tree.{tree_problem}
 use Rattle.ofit_fit.specs.Links.{AreLinks}
 use Rattle.ofit_fit.specs.Direct.{Leads}
 use Rattle.ofit_fit.proofs.Closed.{distinct_from_increasing}
 use Rattle.ofit_fit.proofs.Taken.{taken_filled, taken_fittable}
-use Rattle.ofit_fit.proofs.Ready.{free, scaling, places_closed}
+use Rattle.ofit_fit.specs.Piece.{free_problem}
+use Rattle.ofit_fit.proofs.Ready.{scaling, places_closed}
 use Rattle.ofit_fit.proofs.TreeParts.{rooted, treed}
 use Rattle.ofit_fit.proofs.tree.fit_as_tree.Goals as goal
 
@@ -46,13 +47,13 @@ pub returns : goal.returns
 returns g c =
     let ps = c.pairs.result.now in
     let members = c.args.members.now in
-    let s = problem_stated c.args.study.now in
+    let s = free_problem c.args.study.now in
     let runs = subst (λ (qs : List (ℕ × ℕ)). RunsTo (Leads c.args.direction qs) members c.requires.tree.0) (sym c.pairs.ensures) c.requires.tree.1 in
     let links = subst (λ (ls : List (Option ℕ)). AreLinks (Leads c.args.direction ps) members ls) (sym c.as_slice.ensures.value) c.in_ok-parents.ensures in
     let same_pairs : (e : ℕ × ℕ) → Contains ps e ↔ Contains s.pairs e = subst (λ (qs : List (ℕ × ℕ)). (e : ℕ × ℕ) → Contains qs e ↔ Contains s.pairs e) (sym c.pairs.ensures) c.requires.study.of.pairs in
     IfOk-weaker c.fit_tree.result _ _
     (λ (values : Vec Frac Global) (low : LeastBestValues g.L.Loss.meaning (tree_problem c.args.direction c.in_ok-groups.groups c.as_slice.result.now) values.items).
-    treed s (free c.args.study.now c.args.order.now c.requires.study) ps same_pairs members (places_closed c.args.study.now c.args.order.now c.requires.study members c.requires.places) c.args.direction c.as_slice.result.now links c.requires.tree.0 runs
+    treed s (λ g. refl) ps same_pairs members (places_closed c.args.study.now c.args.order.now c.requires.study members c.requires.places) c.args.direction c.as_slice.result.now links c.requires.tree.0 runs
     g.L.Loss.meaning (scaling c.args.study.now c.args.order.now c.requires.study g.L.Loss.meaning g.L.Loss.STRICT g.met.L.Loss.laws) values.items
     (subst (λ (gs : List (List Row)). LeastBestValues g.L.Loss.meaning (tree_problem c.args.direction gs c.as_slice.result.now) values.items) c.in_ok-groups.ensures low))
     c.fit_tree.ensures.least_best

@@ -2,7 +2,7 @@ use Rattle.std.proofs.Common.{arith, ap, sym, ◌∙◌}
 use Rattle.std.proofs.lemmas.Option.{slice_get-get_or}
 use Rattle.std.specs.Prelude.{Some}
 use Rattle.ofit_num.specs.Fraction.{Fraction}
-use Rattle.ofit_fit.proofs.Putting.{put_none, put_more, put_all}
+use Rattle.ofit_fit.proofs.Putting.{put_more, put_all}
 use Rattle.ofit_fit.proofs.values.put_values.Goals as goal
 
 pub loop-index-preserved : goal.loop-index-preserved

@@ -1,34 +1,38 @@
--- Forms that are fitted by pooling, and the one order of a problem.
-use Rattle.std.proofs.Common.{◌≡◌, ℕ, zero, suc, ◌+◌, ◌<◌, ◌≤◌, ◌⊎◌, refl, sym, ap, ap₂, subst, ◌∙◌, arith, inl, inr, List, [], ◌∷◌, length, get_or, ◌↔◌}
+-- A component has one count of cuts, and a problem one order.
+use Rattle.std.proofs.Common.{◌≡◌, ℕ, zero, suc, ◌<◌, ◌⊎◌, refl, sym, ap₂, subst, ◌∙◌, arith, inl, inr, List, [], ◌∷◌, length, get_or}
 use Rattle.std.specs.List.{Contains}
 use Rattle.ofit_num.specs.Problem.{Problem}
 use Rattle.ofit_order.specs.Relation.{Relation, AreInOrder, ComesBefore}
-use Rattle.ofit_order.specs.Component.{AreMembers}
 use Rattle.ofit_order.specs.Form.{HasForm, FitsForm}
 use Rattle.ofit_order.specs.declared.form.Form.{Form}
 use Rattle.ofit_order.specs.declared.form.Form.TheVariants.{Chain, TreeUp, TreeDown, General}
 use Rattle.ofit_fit.specs.Part.{IsOrderOf}
-use Rattle.ofit_fit.specs.Piece.{IsPooled}
+use Rattle.ofit_fit.specs.Counted.{cuts_of}
 use Rattle.ofit_fit.proofs.Ready.{same_members}
 
--- no form but General fits a component with a form other than General
-fits_none : (pairs : List (ℕ × ℕ)) (members : List ℕ) (f : Form) → IsPooled f → FitsForm pairs members f → FitsForm pairs members General → ⊥
-fits_none pairs members Chain p h g = g h.0 (inl h.1)
-fits_none pairs members TreeUp p h g = g h.0 (inl h.1)
-fits_none pairs members TreeDown p h g = g h.0 (inr h.1)
-fits_none pairs members General p h g = p
-
-pub pooled_form : (f : Form) → (f ≡ General → ⊥) → IsPooled f
-pooled_form Chain h = tt
-pooled_form TreeUp h = tt
-pooled_form TreeDown h = tt
-pooled_form General h = h refl
-
-pub one_form : (order : Relation) (component : ℕ) (f g : Form) → IsPooled f → HasForm order component f → HasForm order component g → IsPooled g
-one_form order component f Chain p h k = tt
-one_form order component f TreeUp p h k = tt
-one_form order component f TreeDown p h k = tt
-one_form order component f General p h k = fits_none order.pairs h.0 f p h.2 (subst (λ (ms : List ℕ). FitsForm order.pairs ms General) (same_members order component k.0 h.0 k.1 h.1) k.2)
+-- Two forms of a component ask for as many cuts.
+pub one_cut_count : (order : Relation) (component : ℕ) (f g : Form) → HasForm order component f → HasForm order component g → cuts_of f ≡ cuts_of g
+one_cut_count order component f g h k = go f g h.2 (subst (λ (ms : List ℕ). FitsForm order.pairs ms g) (same_members order component k.0 h.0 k.1 h.1) k.2) where
+  go : (f g : Form) → FitsForm order.pairs h.0 f → FitsForm order.pairs h.0 g → cuts_of f ≡ cuts_of g
+  go General General x y = refl
+  go General g x y = one g y where
+    one : (g : Form) → FitsForm order.pairs h.0 g → 1 ≡ cuts_of g
+    one General y = refl
+    one Chain y = absurd (x y.0 (inl y.1))
+    one TreeUp y = absurd (x y.0 (inl y.1))
+    one TreeDown y = absurd (x y.0 (inr y.1))
+  go Chain General x y = absurd (y x.0 (inl x.1))
+  go TreeUp General x y = absurd (y x.0 (inl x.1))
+  go TreeDown General x y = absurd (y x.0 (inr x.1))
+  go Chain Chain x y = refl
+  go Chain TreeUp x y = refl
+  go Chain TreeDown x y = refl
+  go TreeUp Chain x y = refl
+  go TreeUp TreeUp x y = refl
+  go TreeUp TreeDown x y = refl
+  go TreeDown Chain x y = refl
+  go TreeDown TreeUp x y = refl
+  go TreeDown TreeDown x y = refl
 
 before_first : (x : ℕ × ℕ) (xs : List (ℕ × ℕ)) → AreInOrder (x ∷ xs) → (e : ℕ × ℕ) → Contains xs e → ComesBefore x e
 before_first x xs in_order e h = subst (ComesBefore x) h.2 (in_order 0 (suc h.0) e (omega arith) (omega (arith, h.1)))
