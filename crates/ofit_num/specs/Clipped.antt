@@ -23,12 +23,12 @@ AreOrdered (Some l) (Some h) = l ≤ℤ h
 abbrev pub whole : ℤ → Fraction
 whole v = record { num = v; den = 1 }
 
--- the fraction, and the lower bound where the fraction is below it
+-- the fraction, or the lower bound where the fraction is below it
 abbrev pub clip_low : Option ℤ → Fraction → Fraction
 clip_low None f = f
 clip_low (Some lo) f = cond (int_lt f.num (lo *ℤ pos f.den)) (whole lo) f
 
--- the fraction, and the upper bound where the fraction is above it
+-- the fraction, or the upper bound where the fraction is above it
 abbrev pub clip_high : Option ℤ → Fraction → Fraction
 clip_high None f = f
 clip_high (Some hi) f = cond (int_lt (hi *ℤ pos f.den) f.num) (whole hi) f
