@@ -41,7 +41,7 @@ counted_more order n before cuts after form h has e = record {
   sum = omega (arith, e, h.sum, sum_more h.forms form);
 }
 
-one_cut : (form : Form) → cuts_of form ≤ 1
+pub one_cut : (form : Form) → cuts_of form ≤ 1
 one_cut Chain = omega arith
 one_cut TreeUp = omega arith
 one_cut TreeDown = omega arith

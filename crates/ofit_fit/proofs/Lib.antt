@@ -20,3 +20,4 @@ pub mod TreeParts
 pub mod OneOrder
 pub mod Generals
 pub mod Counts
+pub mod Bounded

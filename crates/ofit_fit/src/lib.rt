@@ -2,6 +2,7 @@
 #![tactic(auto)]
 
 mod chain;
+mod clip;
 mod component;
 mod general;
 mod laws;

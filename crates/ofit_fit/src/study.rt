@@ -2,7 +2,6 @@ ghost use Rattle.std.specs.Prelude.{◌≡◌, ◌+◌, ◌≤◌, ◌^◌, ℕ,
 ghost use Rattle.ofit_num.specs.Fit.{LeastBestValues};
 ghost use Rattle.ofit_study.specs.Study.{groups_of, problem_stated, meaning_of};
 ghost use Rattle.ofit_fit.specs.Part.{IsOrderOf};
-ghost use Rattle.ofit_fit.specs.Piece.{IsUnbounded};
 ghost use Rattle.ofit_fit.specs.Counted.{HasComponentCount, HasCutCount};
 
 use crate::component::fit_component;
@@ -32,7 +31,6 @@ fn fit_components(
 ) -> Result<Vec<Frac>, AllocError>
     requires order { IsOrderOf order.now (problem_stated study.now) }
     requires as_long { vec_len fitted ≡ length (groups_of study.now) }
-    requires unbounded { IsUnbounded study.now.settings }
     requires room { tally.old.fits ≤ 2 ^ 63 }
     requires room_for_cuts { tally.old.cuts ≤ 2 ^ 63 }
     ensures least_best { IfOk result (λ values. LeastBestValues (meaning_of study.now.settings.loss) (problem_stated study.now) values.items) }
@@ -42,6 +40,7 @@ fn fit_components(
     ensures cuts { OnOk result ((n : ℕ) × HasCutCount (problem_stated study.now) n × (tally.new.cuts ≡ tally.old.cuts + n)) }
     ensures limited_cuts { OnErr result ((n : ℕ) → HasCutCount (problem_stated study.now) n → tally.new.cuts ≤ tally.old.cuts + n) }
     ensures grown_cuts { tally.old.cuts ≤ tally.new.cuts }
+    ensures fewer_cuts { tally.new.cuts + tally.old.fits ≤ tally.old.cuts + tally.new.fits }
 {
     let _groups = study.group_count();
     for component in 0..order.component_count() {
@@ -51,10 +50,9 @@ fn fit_components(
     Ok(fitted)
 }
 
-/// The least-cost values of the study, one for each group in the groups' order, and of these the
-/// pointwise least. The tally counts each component that is fitted, and each that is fitted by cuts.
+/// The least-cost values of the study within its bounds, one for each group in the groups' order, and of
+/// these the pointwise least. The tally counts each component that is fitted, and each that is fitted by cuts.
 pub fn fit_study(alloc: Global, study: &Study, tally: &mut Tally) -> Result<Vec<Frac>, AllocError>
-    requires unbounded { IsUnbounded study.now.settings }
     requires room { tally.old.fits ≤ 2 ^ 63 }
     requires room_for_cuts { tally.old.cuts ≤ 2 ^ 63 }
     ensures least_best { IfOk result (λ values. LeastBestValues (meaning_of study.now.settings.loss) (problem_stated study.now) values.items) }
@@ -64,6 +62,7 @@ pub fn fit_study(alloc: Global, study: &Study, tally: &mut Tally) -> Result<Vec<
     ensures cuts { OnOk result ((n : ℕ) × HasCutCount (problem_stated study.now) n × (tally.new.cuts ≡ tally.old.cuts + n)) }
     ensures limited_cuts { OnErr result ((n : ℕ) → HasCutCount (problem_stated study.now) n → tally.new.cuts ≤ tally.old.cuts + n) }
     ensures grown_cuts { tally.old.cuts ≤ tally.new.cuts }
+    ensures fewer_cuts { tally.new.cuts + tally.old.fits ≤ tally.old.cuts + tally.new.fits }
 {
     let order = study.order(alloc)?;
     let values = zeros(alloc, study.group_count())?;

@@ -1,32 +1,30 @@
-use Rattle.std.proofs.Common.{rules, ◌≡◌, ℕ, List, subst}
-use Rattle.std.specs.Prelude.{IfOk}
-use Rattle.ofit_num.specs.Problem.{Problem}
-use Rattle.ofit_num.specs.Meaning.{Meaning}
-use Rattle.ofit_num.specs.Loss.{squares, median}
+use Rattle.std.proofs.Common.{◌≡◌, ◌∙◌, ℕ, List, map, ap, sym, subst}
+use Rattle.std.specs.Prelude.{Vec}
+use Rattle.std.specs.Global.{Global}
+use Rattle.std.proofs.lemmas.Result.{IfOk-weaker}
+use Rattle.ofit_num.specs.declared.frac.Frac.{Frac}
+use Rattle.ofit_num.specs.Clipped.{clip}
+use Rattle.ofit_num.specs.Fraction.{Fraction}
 use Rattle.ofit_num.specs.Fit.{LeastBestValues}
-use Rattle.ofit_order.specs.Component.{AreMembers}
-use Rattle.ofit_study.specs.Study.{meaning_of}
+use Rattle.ofit_study.specs.Study.{problem_stated, meaning_of}
 use Rattle.ofit_fit.specs.Part.{part_of}
-use Rattle.ofit_fit.specs.Piece.{free_problem}
-use Rattle.ofit_fit.proofs.Ready.{study_fittable, without_bounds}
+use Rattle.ofit_fit.proofs.Ready.{study_fittable, members_places, for_members}
+use Rattle.ofit_fit.proofs.Bounded.{bounded}
 use Rattle.ofit_fit.proofs.component.fit_component.Goals as goal
 
-pub fit_form-requires-clause-study : goal.fit_form-requires-clause-study
-fit_form-requires-clause-study c = study_fittable c.args.study.now c.args.order.now c.group_count-groups.ensures.valid c.requires.order
+pub fit_free-requires-clause-study : goal.fit_free-requires-clause-study
+fit_free-requires-clause-study c = study_fittable c.args.study.now c.args.order.now c.group_count-groups.ensures.valid c.requires.order
 
-pub fit_form-requires-in-Median-clause-study : goal.fit_form-requires-in-Median-clause-study
-fit_form-requires-in-Median-clause-study c = study_fittable c.args.study.now c.args.order.now c.group_count-groups.ensures.valid c.requires.order
-
-pub returns-in-Squares-clause-least_best : goal.returns-in-Squares-clause-least_best
-returns-in-Squares-clause-least_best c =
-    let m : Meaning = meaning_of c.args.study.now.settings.loss in
-    let same : squares ≡ m = search rules in
-    subst (λ (p : Problem). IfOk c.fit_form.result (λ values. (members : List ℕ) → AreMembers c.args.order.now c.args.component members → LeastBestValues m (part_of p members) values.items)) (without_bounds c.args.study.now c.requires.unbounded)
-    (subst (λ (l : Meaning). IfOk c.fit_form.result (λ values. (members : List ℕ) → AreMembers c.args.order.now c.args.component members → LeastBestValues l (part_of (free_problem c.args.study.now) members) values.items)) same c.fit_form.ensures.least_best)
-
-pub returns-in-Median-clause-least_best : goal.returns-in-Median-clause-least_best
-returns-in-Median-clause-least_best c =
-    let m : Meaning = meaning_of c.args.study.now.settings.loss in
-    let same : median ≡ m = search rules in
-    subst (λ (p : Problem). IfOk c.fit_form-in-Median.result (λ values. (members : List ℕ) → AreMembers c.args.order.now c.args.component members → LeastBestValues m (part_of p members) values.items)) (without_bounds c.args.study.now c.requires.unbounded)
-    (subst (λ (l : Meaning). IfOk c.fit_form-in-Median.result (λ values. (members : List ℕ) → AreMembers c.args.order.now c.args.component members → LeastBestValues l (part_of (free_problem c.args.study.now) members) values.items)) same c.fit_form-in-Median.ensures.least_best)
+pub returns-clause-least_best : goal.returns-clause-least_best
+returns-clause-least_best c =
+    let s = c.args.study.now in
+    let order = c.args.order.now in
+    let members = c.members.result.now in
+    let valid = c.group_count-groups.ensures.valid in
+    let m = meaning_of s.settings.loss in
+    let places = members_places s order valid c.requires.order c.args.component members c.requires.component c.members.ensures.members c.members.ensures.closed in
+    let low = bounded s order valid (study_fittable s order valid c.requires.order) members places c.in_ok-values.values.items (c.in_ok-values.ensures.least_best members c.members.ensures.members) in
+    for_members c.values_within.result m (problem_stated s) order c.args.component members c.members.ensures.members
+    (IfOk-weaker c.values_within.result _ _
+    (λ (within : Vec Frac Global) (e : within.items ≡ map (clip s.settings.lo s.settings.hi) c.deref.result.now).
+        subst (λ (vs : List Fraction). LeastBestValues m (part_of (problem_stated s) members) vs) (sym (e ∙ ap (map (clip s.settings.lo s.settings.hi)) c.deref.ensures.value)) low) c.values_within.ensures)

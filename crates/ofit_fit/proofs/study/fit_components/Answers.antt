@@ -8,7 +8,7 @@ use Rattle.ofit_fit.specs.Part.{part_of}
 use Rattle.ofit_fit.specs.Counted.{HasComponentCount}
 use Rattle.ofit_fit.proofs.Closed.{distinct_from_increasing}
 use Rattle.ofit_fit.proofs.Fitted.{fitted_none, fitted_more, fitted_all, count_of_order, one_count, at_any}
-use Rattle.ofit_fit.proofs.Counts.{AreCounted, counted_none, counted_more, counted_most, counted_grown, counted_all, counted_within}
+use Rattle.ofit_fit.proofs.Counts.{AreCounted, counted_none, counted_more, counted_most, counted_grown, counted_all, counted_within, one_cut}
 use Rattle.ofit_fit.proofs.Components.{HasComponents, from_parts}
 use Rattle.ofit_fit.proofs.Stated.{stated_scaling}
 use Rattle.ofit_fit.proofs.study.fit_components.Goals as goal
@@ -91,3 +91,16 @@ returns-clause-cuts c =
 
 pub returns-clause-grown_cuts : goal.returns-clause-grown_cuts
 returns-clause-grown_cuts c = counted_grown c.args.order.now c.loop-component.component c.args.tally.now.cuts c.loop-component.tally.cuts c.loop-component.invariant.2
+
+pub returns-in_err-values-clause-fewer_cuts : goal.returns-in_err-values-clause-fewer_cuts
+returns-in_err-values-clause-fewer_cuts c = omega (
+  arith,
+  c.in_err-values.ensures.counted,
+  c.in_err-values.ensures.cuts.most,
+  one_cut c.in_err-values.ensures.cuts.form,
+  c.loop-component.invariant.1,
+  counted_most c.args.order.now c.loop-component.component c.args.tally.now.cuts c.loop-component.tally.cuts c.loop-component.invariant.2,
+)
+
+pub returns-clause-fewer_cuts : goal.returns-clause-fewer_cuts
+returns-clause-fewer_cuts c = omega (arith, c.loop-component.invariant.1, counted_most c.args.order.now c.loop-component.component c.args.tally.now.cuts c.loop-component.tally.cuts c.loop-component.invariant.2)
