@@ -11,6 +11,3 @@ mod verdict;
 pub use answer::{Answer, Refusal, Which, status};
 pub use line::tell;
 pub use verdict::verdict_line;
-
-#[cfg(test)]
-mod tests;

@@ -15,6 +15,3 @@ mod tight;
 
 pub use certificate::certify;
 pub use laws::best_values_are_not_barred;
-
-#[cfg(test)]
-mod tests;

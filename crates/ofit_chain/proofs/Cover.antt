@@ -15,6 +15,7 @@ use Rattle.ofit_num.specs.Settled.{IsSettled, IsLeastSettled}
 use Rattle.ofit_num.specs.Limits.{all_rows}
 use Rattle.ofit_num.specs.Law.{greatest_at, HasFallingSpans}
 use Rattle.ofit_num.specs.Sets.{set_sum}
+use Rattle.ofit_num.specs.Steep.{IsSteep}
 use Rattle.ofit_num.specs.Block.{IsPooled, IsBlock, IsCost}
 use Rattle.ofit_loss.specs.Rows.{AreFittable}
 use Rattle.ofit_loss.specs.Laws.{HasLossLaws}
@@ -22,8 +23,8 @@ use Rattle.ofit_loss.specs.Least.{IsLeastMinimiser}
 use Rattle.ofit_loss.proofs.ProblemLaws.{groups_fittable, problem_falling}
 use Rattle.ofit_chain.specs.declared.block.Block.{Block}
 use Rattle.ofit_chain.specs.Chain.{chain_pairs, chain_problem}
-use Rattle.ofit_chain.specs.Stretch.{run, Stretch, IsStretch, IsSteep, AreStretches, Rise, groups_in, values_of}
-use Rattle.ofit_chain.specs.Merge.{CanMerge}
+use Rattle.ofit_chain.specs.Stretch.{run, Stretch, IsStretch, AreStretches, Rise, groups_in, values_of}
+use Rattle.ofit_loss.specs.Pool.{CanMerge}
 use Rattle.ofit_chain.specs.Covers.{rows_in, stretch_of, IsBlockAt, AreBlocks, Covers}
 use Rattle.ofit_chain.proofs.Runs.{lone_block, lone_steep, absorbed_run, absorbed_steep}
 use Rattle.ofit_chain.proofs.Values.{values_least_best, values_settled, values_least_settled}

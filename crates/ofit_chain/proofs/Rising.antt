@@ -1,5 +1,5 @@
 -- stretches of rising values, run after run, are fitted, and each set that can be lowered together loses by it
-use Rattle.std.proofs.Common.{◌≡◌, ℕ, zero, suc, ◌+◌, ◌*◌, ◌<◌, ◌≤◌, refl, sym, ap, subst, ◌∙◌, arith, cond, mul-pos, Bool, true, false, List, [], ◌∷◌, ◌⊎◌, inl, inr}
+use Rattle.std.proofs.Common.{◌≡◌, ℕ, zero, suc, ◌+◌, ◌*◌, ◌<◌, ◌≤◌, refl, sym, subst, ◌∙◌, arith, mul-pos, Bool, true, false, List, [], ◌∷◌, ◌⊎◌, inl, inr}
 use Rattle.std.proofs.lemmas.Int.{ints}
 use Rattle.std.specs.Prelude.{ℤ, pos, ◌+ℤ◌, ◌-ℤ◌, ◌*ℤ◌, ◌≤ℤ◌, ◌<ℤ◌}
 use Rattle.ofit_num.specs.Problem.{Problem}
@@ -10,10 +10,11 @@ use Rattle.ofit_num.specs.Law.{least_at, HasFallingSpans}
 use Rattle.ofit_num.specs.Sets.{set_sum, IsWithin, IsLowerIn, IsSplit, IsClosedDownIn}
 use Rattle.ofit_num.specs.Settled.{IsFitted, LosesByLowering}
 use Rattle.ofit_num.specs.Block.{IsBlock}
-use Rattle.ofit_num.proofs.Gap.{is_gap, gap-same, gap-mul, gap-sub, pos-gap}
+use Rattle.ofit_num.proofs.Values.{rising_values, lowered_below}
+use Rattle.ofit_num.proofs.Falls.{set_sum-members}
 use Rattle.ofit_num.proofs.Blocks.{block_fitted, block_loses, set_sum-none, member_or_none}
 use Rattle.ofit_num.proofs.Pieces.{and_both, both_and, meet, set_sum-split, joined, joined_loses}
-use Rattle.ofit_num.proofs.Order.{mul_pos, mul_strict, assoc_swap, mul_pos_mul, cancel_le_ℤ, cancel_ℤ, zero_mul_ℤ}
+use Rattle.ofit_num.proofs.Order.{cancel_ℤ}
 use Rattle.ofit_chain.specs.Chain.{chain_pairs}
 use Rattle.ofit_chain.specs.Stretch.{run, Stretch, IsStretch, AreStretches, StartsAbove, Rise, groups_in}
 use Rattle.ofit_chain.proofs.Runs.{from_run, in_run, untrue, clash, along, everywhere, chain_places, run_cut, block_gains}
@@ -22,38 +23,6 @@ use Rattle.ofit_chain.proofs.Runs.{from_run, in_run, untrue, clash, along, every
 abbrev pub Follows : Trial → ℕ → List Stretch → Type 0
 Follows t start [] = Unit {0}
 Follows t start (b ∷ bs) = ((g : ℕ) → run start (start + b.groups) g ≡ true → t.value g *ℤ pos b.value.den ≡ b.value.num *ℤ pos t.scale) × Follows t (start + b.groups) bs
-
--- v/q and w/q are n/d and k/e
-rising_values : (v w n k : ℤ) (d e q : ℕ) → 0 < d → 0 < e → v *ℤ pos d ≡ n *ℤ pos q → w *ℤ pos e ≡ k *ℤ pos q → (n *ℤ pos e) ≤ℤ (k *ℤ pos d) → v ≤ℤ w
-rising_values v w n k d e q ld le hv hw h = cancel_le_ℤ v w (e * d) (mul-pos le ld) (omega (
-  arith,
-  ints,
-  mul_pos_mul v d e,
-  mul_pos_mul w d e,
-  assoc_swap w (pos d) (pos e),
-  ap (λ (z : ℤ). z *ℤ pos e) hv,
-  ap (λ (z : ℤ). z *ℤ pos d) hw,
-  assoc_swap n (pos q) (pos e),
-  assoc_swap k (pos q) (pos d),
-  mul_pos (n *ℤ pos e) (k *ℤ pos d) q h,
-))
-
--- v/q less k/(q·r) is below n/d, where v/q is n/d
-lowered_below : (v n : ℤ) (d q r k : ℕ) → 0 < d → 0 < k → v *ℤ pos d ≡ n *ℤ pos q → ((v *ℤ pos r -ℤ pos k) *ℤ pos d) <ℤ (n *ℤ pos (q * r))
-lowered_below v n d q r k ld lk e = omega (
-  arith,
-  ints,
-  opened v (pos k) d r,
-  ap (λ (z : ℤ). z *ℤ pos r) e,
-  spread n q r,
-  mul_strict (pos 0) (pos k) d (omega (arith, ints)) ld,
-  zero_mul_ℤ (pos d),
-) where
-  opened : (v y : ℤ) (d r : ℕ) → (v *ℤ pos r -ℤ y) *ℤ pos d ≡ (v *ℤ pos d) *ℤ pos r -ℤ y *ℤ pos d
-  opened v y d r = rw (is_gap v, is_gap y) (simp (pos-gap, gap-mul, gap-sub) (gap-same _ _ _ _ (omega arith)))
-
-  spread : (n : ℤ) (q r : ℕ) → n *ℤ pos (q * r) ≡ (n *ℤ pos q) *ℤ pos r
-  spread n q r = rw (is_gap n) (simp (pos-gap, gap-mul) (gap-same _ _ _ _ (omega arith)))
 
 module _ (m : Meaning) (s : Problem) (chain : s.pairs ≡ chain_pairs s.count) (law : HasFallingSpans m s) (strict : Bool) (t : Trial) (scale : 0 < t.scale) where
   -- no stretch, no place
@@ -113,13 +82,6 @@ module _ (m : Meaning) (s : Problem) (chain : s.pairs ≡ chain_pairs s.count) (
   module _ (r k : ℕ) (lr : 0 < r) (lk : 0 < k) where
     end : ℕ → ℤ
     end g = m.greatest (s.rows g) (t.value g *ℤ pos r -ℤ pos k) (t.scale * r)
-
-    set_sum-members : (a : ℕ → Bool) (f h : ℕ → ℤ) (n : ℕ) → ((g : ℕ) → g < n → a g ≡ true → f g ≤ℤ h g) → set_sum a f n ≤ℤ set_sum a h n
-    set_sum-members a f h zero le = omega (arith, ints)
-    set_sum-members a f h (suc n) le = go (a n) refl (set_sum-members a f h n (λ g l u. le g (omega arith) u)) where
-      go : (x : Bool) → a n ≡ x → set_sum a f n ≤ℤ set_sum a h n → (set_sum a f n +ℤ cond x (f n) (pos 0)) ≤ℤ (set_sum a h n +ℤ cond x (h n) (pos 0))
-      go true u p = omega (arith, ints, le n (omega arith) u)
-      go false u p = omega (arith, ints)
 
     -- one stretch
     stretch_gains : (i : ℕ) (b : Stretch) (st : IsStretch m s strict i b) → ((g : ℕ) → run i (i + b.groups) g ≡ true → t.value g *ℤ pos b.value.den ≡ b.value.num *ℤ pos t.scale)

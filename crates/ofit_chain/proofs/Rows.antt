@@ -1,7 +1,8 @@
 -- the rows of neighbouring groups, and their balances
-use Rattle.std.proofs.Common.{◌≡◌, ℕ, zero, suc, ◌+◌, ◌<◌, ◌≤◌, refl, sym, ap, subst, ◌∙◌, arith, List, [], ◌∷◌, ◌++◌, length, take, drop, append_assoc, length-append, length-drop}
+use Rattle.std.proofs.Common.{◌≡◌, ℕ, zero, suc, ◌+◌, ◌<◌, ◌≤◌, refl, sym, ap, subst, ◌∙◌, arith, List, [], ◌∷◌, ◌++◌, length, take, drop, append_assoc, length-append, length-drop, get_or}
 use Rattle.std.proofs.lemmas.Int.{ints}
 use Rattle.std.proofs.lemmas.List.{drop-drop}
+use Rattle.std.proofs.lemmas.Option.{slice_get-get_or}
 use Rattle.std.proofs.lemmas.List.Elements.{All-head, All-drop}
 use Rattle.std.specs.Prelude.{Bool, ℤ, pos, ◌+ℤ◌, All, slice_get, Some, unwrap_or}
 use Rattle.ofit_num.specs.declared.row.Row.{Row}
@@ -53,9 +54,7 @@ slice_get-drop (r ∷ gs) (suc i) k = slice_get-drop gs i k ∙ ap (slice_get (r
   plus n k = omega arith
 
 pub group_at : (gs : RowLists) (k : ℕ) → k < length gs → (rows : List Row) × (slice_get gs k ≡ Some rows)
-group_at [] k l = absurd (omega arith)
-group_at (r ∷ gs) zero l = (r, refl)
-group_at (r ∷ gs) (suc k) l = group_at gs k (omega arith)
+group_at gs k l = (get_or gs k [], slice_get-get_or gs k [] l)
 
 rows_in-more : (groups : RowLists) (i n : ℕ) (rows : List Row) → slice_get groups (i + n) ≡ Some rows → rows_in groups i (suc n) ≡ rows_in groups i n ++ rows
 rows_in-more groups i n rows e = all_rows-take_more (drop i groups) n rows (slice_get-drop groups i n ∙ e)

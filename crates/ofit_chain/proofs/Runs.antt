@@ -10,11 +10,12 @@ use Rattle.ofit_num.specs.Meaning.{Meaning}
 use Rattle.ofit_num.specs.Fraction.{Fraction, AtMost, Below}
 use Rattle.ofit_num.specs.Law.{least_at, greatest_at, HasFallingSpans}
 use Rattle.ofit_num.specs.Sets.{set_sum, IsWithin, IsUpperIn, IsLowerIn, IsSplit}
+use Rattle.ofit_num.specs.Steep.{IsSteep}
 use Rattle.ofit_num.specs.Block.{IsPooled, IsBlock, IsCost}
 use Rattle.ofit_num.proofs.Blocks.{absorbed, member_or_none, set_sum-none, set_sum-equal, below_trans}
 use Rattle.ofit_num.proofs.Pieces.{and_both, both_and, meet, set_sum-split}
 use Rattle.ofit_chain.specs.Chain.{steps, chain_pairs}
-use Rattle.ofit_chain.specs.Stretch.{run, IsSteep}
+use Rattle.ofit_chain.specs.Stretch.{run}
 
 -- the pairs of a chain are those of each place with the next
 steps_contains : (n k : ℕ) → k < n → Contains (steps n) (k, suc k)

@@ -1,19 +1,14 @@
 -- Stretches of a chain: neighbouring groups that share one value.
-use Rattle.std.specs.Prelude.{◌≡◌, ℕ, suc, ◌+◌, ◌<◌, ◌≤◌, Bool, true, false, not, ◌&&◌, nat_lt, List, [], ◌∷◌, ◌++◌, replicate, pos, ◌<ℤ◌}
+use Rattle.std.specs.Prelude.{◌≡◌, ℕ, suc, ◌+◌, ◌≤◌, Bool, not, ◌&&◌, nat_lt, List, [], ◌∷◌, ◌++◌, replicate}
 use Rattle.ofit_num.specs.Problem.{Problem}
 use Rattle.ofit_num.specs.Meaning.{Meaning}
 use Rattle.ofit_num.specs.Fraction.{Fraction, Below}
-use Rattle.ofit_num.specs.Law.{least_at}
-use Rattle.ofit_num.specs.Sets.{set_sum, IsWithin, IsLowerIn}
 use Rattle.ofit_num.specs.Block.{IsBlock}
+use Rattle.ofit_num.specs.Steep.{IsSteep}
 
 -- the places from i on and below j
 abbrev pub run : ℕ → ℕ → ℕ → Bool
 run i j g = not (nat_lt g i) && nat_lt g j
-
--- at each value below the limit, each lower set of the piece that leaves out the top and has a place would gain by rising
-pub record IsSteep (m : Meaning) (s : Problem) (piece : ℕ → Bool) (top : ℕ) (limit : Fraction) : Type 0 where
-  pub gains : (b : Fraction) → 0 < b.den → Below b limit → (a : ℕ → Bool) → IsWithin s piece a → IsLowerIn s piece a → a top ≡ false → (g : ℕ) → g < s.count → a g ≡ true → pos 0 <ℤ set_sum a (least_at m s b) s.count
 
 -- so many neighbouring groups at one value
 pub record Stretch : Type 0 where

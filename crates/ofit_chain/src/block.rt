@@ -2,7 +2,7 @@ ghost use Rattle.std.specs.Prelude.{◌≡◌, ◌+◌, ◌<◌, ◌^◌, List, 
 ghost use Rattle.ofit_num.specs.declared.row.Row.{Row};
 ghost use Rattle.ofit_loss.specs.Rows.{AreFittable};
 ghost use Rattle.ofit_loss.specs.Least.{IsLeastMinimiser};
-ghost use Rattle.ofit_chain.specs.Merge.{CanMerge};
+ghost use Rattle.ofit_loss.specs.Pool.{CanMerge};
 
 use ofit_loss::Loss;
 use ofit_num::{Frac, Row};
@@ -14,7 +14,7 @@ use std::alloc::{AllocError, Global};
 pub(crate) struct Block<P: Drop> {
     pub pool: P,
     pub value: Frac,
-    pub groups: u32,
+    pub groups: u64,
 }
 
 /// The block of one group's rows.
@@ -40,7 +40,7 @@ pub(crate) fn merge<L: Loss>(
     right: Block<L::Pool>,
 ) -> Result<Block<L::Pool>, AllocError>
     requires pools { CanMerge L.IsPoolOf left.pool right.pool }
-    requires groups { left.groups + right.groups < 2 ^ 32 }
+    requires groups { left.groups + right.groups < 2 ^ 64 }
     ensures pool { (xs ys : List Row) → L.IsPoolOf left.pool xs → L.IsPoolOf right.pool ys → IfOk result (λ block. L.IsPoolOf block.pool (xs ++ ys)) }
     ensures value { (xs ys : List Row) → L.IsPoolOf left.pool xs → L.IsPoolOf right.pool ys → AreFittable (xs ++ ys) → 0 < length (xs ++ ys)
         → IfOk result (λ block. IsLeastMinimiser L.meaning L.STRICT (xs ++ ys) block.value) }

@@ -12,6 +12,3 @@ mod verdict;
 
 pub use check::verdict_sheet;
 pub use verdict::Verdict;
-
-#[cfg(test)]
-mod tests;

@@ -3,7 +3,7 @@ use Rattle.std.specs.Prelude.{◌≡◌, ◌<◌, ℕ, Bool, true, List, length,
 use Rattle.ofit_cut.specs.declared.tie.Tie.{Tie}
 use Rattle.ofit_cut.specs.declared.tie.Tie.TheVariants.{Smallest, Largest}
 use Rattle.ofit_flow.specs.Network.{Routing, members, others}
-use Rattle.ofit_cut.specs.Sets.{sum_of}
+use Rattle.ofit_cut.specs.Sets.{sum_of, IsUpper}
 
 -- a set of the kind, and none of the kind has a greater sum
 pub record IsGreatest (IsOfKind : (ℕ → Bool) → Type 0) (weights : List ℤ) (set : ℕ → Bool) : Type 0 where
@@ -29,3 +29,8 @@ IsTied Largest IsOfKind weights set = IsLargestGreatest IsOfKind weights set
 abbrev pub side_of : Tie → Routing → ℕ → Bool
 side_of Smallest flowed = members flowed.source_side
 side_of Largest flowed = others flowed.sink_side
+
+-- each set that agrees with a side of the flow is the greatest upper set that the tie names
+abbrev pub AreTied : List (ℕ × ℕ) → List ℤ → Routing → Type 0
+AreTied pairs weights flowed =
+    (tie : Tie) (set : ℕ → Bool) → ((node : ℕ) → node < length weights → set node ≡ side_of tie flowed node) → IsTied tie (IsUpper pairs) weights set

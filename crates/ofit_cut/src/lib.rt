@@ -5,11 +5,12 @@
 //! holds the low end of each pair whose high end it holds. Pairs with equal ends limit no set; pairs
 //! may stand more than once and close cycles.
 //!
-//! [`upper_cut`] and [`lower_cut`] find a set of the greatest sum of weights by one minimum cut, and
-//! [`balance_flow`] finds flows along the pairs whose balance at each node lies in the node's span,
-//! or a set that shows that there are none, by at most two; where the pairs are a forest it finds them
-//! in linear time. All sums stay within 128 bits. The cuts are as slow as [`ofit_flow`]'s maximum flow
-//! is on such nets.
+//! [`upper_cut`] and [`lower_cut`] find a set of the greatest sum of weights by one minimum cut,
+//! [`upper_extremes`] and [`lower_extremes`] the smallest and the largest of these by one as well.
+//! [`balance_flow`] finds flows along the pairs whose balance at each node lies in the node's span, or
+//! a set that shows that there are none: leaves are peeled in linear time, and one maximum flow runs
+//! along the pairs that are left, so that a forest takes none; a set against flows takes up to four.
+//! All sums stay within 128 bits. The cuts are as slow as [`ofit_flow`]'s maximum flow is on such nets.
 #![tactic(auto)]
 
 mod amounts;
@@ -18,6 +19,7 @@ mod balanced;
 mod balances;
 mod cut;
 mod edges;
+mod extremes;
 mod limits;
 mod members;
 mod peel;
@@ -31,11 +33,13 @@ mod span;
 #[cfg(test)]
 mod tests;
 mod tie;
+mod two_core;
 
 pub use amounts::Amounts;
 pub use balance::balance_flow;
 pub use balanced::Balanced;
 pub use cut::{lower_cut, upper_cut};
+pub use extremes::{Extremes, lower_extremes, upper_extremes};
 pub use limits::{MAX_NODES, MAX_PAIRS};
 pub use members::Members;
 pub use span::Span;

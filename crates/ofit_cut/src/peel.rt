@@ -1,9 +1,11 @@
-//! A guess at flows along pairs that form a forest, by peeling leaves.
+//! A guess at flows along pairs, by peeling leaves: each is folded into the reach of the node at its
+//! other end, and what is left without leaves is one flow.
 //!
 //! Nothing is promised of the amounts: [`peeled`](crate::peeled::peeled) checks them. Sums that would leave
 //! 128 bits stop at the end of the range.
 
 use crate::span::Span;
+use crate::two_core::core_amounts;
 use ofit_flow::MAX_CAPACITY;
 use std::alloc::{AllocError, Global};
 
@@ -13,8 +15,8 @@ const OPEN: i128 = 10_000_000_000_000_000_000_000_000_000_000_000_000;
 /// The pairs at a node that aren't peeled yet: how many, and the exclusive or of their indexes, which
 /// is the index of the last one.
 #[derive(Clone, Copy)]
-struct Stub {
-    degree: u32,
+pub(crate) struct Stub {
+    pub(crate) degree: u32,
     mixed: usize,
 }
 
@@ -45,9 +47,9 @@ struct Leaf {
 /// The least and the greatest that a node can pass on, of its own balance and of what its leaves give
 /// it, and how far it can go above the least before leaves have to give more than they need to.
 #[derive(Clone, Copy)]
-struct Reach {
-    low: i128,
-    high: i128,
+pub(crate) struct Reach {
+    pub(crate) low: i128,
+    pub(crate) high: i128,
     slack: i128,
 }
 
@@ -61,6 +63,11 @@ impl Reach {
             high,
             slack: high.saturating_sub(low),
         }
+    }
+
+    /// What of it is nearest to 0.
+    pub(crate) fn nearest(&self) -> i128 {
+        self.low.max(0).min(self.high)
     }
 
     /// That of the flow from a leaf towards its pair's other end.
@@ -176,8 +183,16 @@ fn peel(stubs: &mut [Stub], leaf: &Leaf) {
     }
 }
 
-/// The leaves in the order in which they are peeled: each before the node at its other end.
-fn leaves_of(alloc: Global, pairs: &[(u32, u32)], nodes: usize) -> Result<Vec<Leaf>, AllocError> {
+/// The leaves in the order in which they are peeled, each before the node at its other end, and the
+/// pairs that are left at each node.
+#[derive(Drop)]
+struct Peeling {
+    leaves: Vec<Leaf>,
+    stubs: Vec<Stub>,
+}
+
+/// Peels leaves as long as there are any.
+fn peeling_of(alloc: Global, pairs: &[(u32, u32)], nodes: usize) -> Result<Peeling, AllocError> {
     let mut stubs = stubs_of(alloc, pairs, nodes)?;
     let mut leaves = Vec::new(alloc);
     for start in 0..nodes {
@@ -193,7 +208,7 @@ fn leaves_of(alloc: Global, pairs: &[(u32, u32)], nodes: usize) -> Result<Vec<Le
             }
         }
     }
-    Ok(leaves)
+    Ok(Peeling { leaves, stubs })
 }
 
 /// What each node can pass on, leaves first.
@@ -223,21 +238,40 @@ fn given(rests: &mut [Rest], leaf: &Leaf, reach: &Reach) -> i128 {
     given
 }
 
-/// The amounts, from the nodes that are left down to the leaves.
-fn amounts_down(
+/// What flows out of each node less what flows into it, along the pairs that are left.
+fn passed_of(
     alloc: Global,
-    pairs: usize,
-    leaves: &[Leaf],
-    reaches: &[Reach],
+    pairs: &[(u32, u32)],
+    amounts: &[i128],
+    nodes: usize,
 ) -> Result<Vec<i128>, AllocError> {
-    let mut amounts = vec![in alloc; 0i128; pairs]?;
-    let mut rests: Vec<Rest> = reaches
-        .iter()
-        .map(|reach| Rest::of(0i128.saturating_sub(reach.low), reach.slack))
-        .collect(alloc)?;
+    let mut passed = vec![in alloc; 0i128; nodes]?;
+    for (pair, amount) in pairs.iter().zip(amounts) {
+        let (low, high) = *pair;
+        if let Some(balance) = passed.get_mut(low as usize) {
+            *balance = balance.saturating_add(*amount);
+        }
+        if let Some(balance) = passed.get_mut(high as usize) {
+            *balance = balance.saturating_sub(*amount);
+        }
+    }
+    Ok(passed)
+}
+
+/// What each node's leaves have to give more than the least, once it has passed on what it does.
+fn rests_of(alloc: Global, reaches: &[Reach], passed: &[i128]) -> Result<Vec<Rest>, AllocError> {
+    let mut rests = Vec::new(alloc);
+    for (reach, balance) in reaches.iter().zip(passed) {
+        rests.push(Rest::of(balance.saturating_sub(reach.low), reach.slack))?;
+    }
+    Ok(rests)
+}
+
+/// Writes the amounts of the peeled pairs, from the nodes that are left down to the leaves.
+fn unfold(amounts: &mut Vec<i128>, rests: &mut [Rest], leaves: &[Leaf], reaches: &[Reach]) {
     for leaf in leaves.iter().rev() {
         if let Some(reach) = reaches.get(leaf.node) {
-            let given = given(&mut rests, leaf, reach);
+            let given = given(rests, leaf, reach);
             if let Some(amount) = amounts.get_mut(leaf.pair) {
                 *amount = if leaf.is_low {
                     given
@@ -247,17 +281,19 @@ fn amounts_down(
             }
         }
     }
-    Ok(amounts)
 }
 
-/// An amount for each pair: flows within the spans where there are any and the pairs, seen without
-/// direction, form a forest. Pairs on cycles get 0.
+/// An amount for each pair: flows within the spans where there are any.
 pub(crate) fn guess(
     alloc: Global,
     pairs: &[(u32, u32)],
     spans: &[Span],
 ) -> Result<Vec<i128>, AllocError> {
-    let leaves = leaves_of(alloc, pairs, spans.len())?;
-    let reaches = reaches_of(alloc, spans, &leaves)?;
-    amounts_down(alloc, pairs.len(), &leaves, &reaches)
+    let peeling = peeling_of(alloc, pairs, spans.len())?;
+    let reaches = reaches_of(alloc, spans, &peeling.leaves)?;
+    let mut amounts = core_amounts(alloc, pairs, &peeling.stubs, &reaches)?;
+    let passed = passed_of(alloc, pairs, &amounts, spans.len())?;
+    let mut rests = rests_of(alloc, &reaches, &passed)?;
+    unfold(&mut amounts, &mut rests, &peeling.leaves, &reaches);
+    Ok(amounts)
 }

@@ -1,4 +1,4 @@
-//! Flows within spans, or a set against them, by one maximum flow where leaves can't be peeled.
+//! Flows within spans, or a set against them.
 
 ghost use Rattle.std.specs.Prelude.{◌≡◌, ◌<◌, ◌≤◌, ◌*◌, ◌^◌, All, IfOk, length};
 ghost use Rattle.ofit_cut.specs.Sets.{AreWithin};
@@ -18,9 +18,10 @@ use std::alloc::{AllocError, Global};
 
 /// Flows within the spans, or whichever set the minimum cut shows against them.
 ///
-/// Where the pairs are a forest, peeling its leaves finds flows in linear time. Otherwise each node
-/// gives what its balance nearest to 0 is, and a hub makes up the differences within the spans: a
-/// circulation with lower bounds (Hoffman 1960) as one maximum flow.
+/// Where there are flows, peeling leaves and one maximum flow along the pairs that are left find
+/// them. Otherwise each node of the whole net gives what its balance nearest to 0 is, and a hub makes
+/// up the differences within the spans: a circulation with lower bounds (Hoffman 1960) as one maximum
+/// flow.
 pub(crate) fn settle(
     alloc: Global,
     pairs: &[(u32, u32)],
@@ -46,7 +47,7 @@ pub(crate) fn settle(
     let bases = bases_of(alloc, spans)?;
     let totals = totals_of(bases.as_slice());
     let edges = balance_edges(alloc, pairs, spans, bases.as_slice(), ends, hub)?;
-    let flowed = solve(alloc, nodes + 3, edges.as_slice(), ends)?;
+    let flowed = solve(alloc, nodes + 3, edges, ends)?;
     if flowed.value() == totals.supply + totals.demand {
         let amounts = Amounts::of_first(alloc, &flowed, pairs.len() as u32)?;
         Ok(Balanced::Flows(amounts))

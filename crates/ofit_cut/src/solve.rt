@@ -12,20 +12,17 @@ use std::alloc::{AllocError, Global};
 pub(crate) fn solve(
     alloc: Global,
     nodes: u32,
-    edges: &[Edge],
+    edges: Vec<Edge>,
     ends: Ends,
 ) -> Result<Flowed, AllocError>
-    requires few { length edges.now ≤ MAX_EDGES }
-    requires edges_in { All (CanAdd nodes) edges.now }
+    requires few { length edges.items ≤ MAX_EDGES }
+    requires edges_in { All (CanAdd nodes) edges.items }
     requires source_in { ends.source < nodes }
     requires sink_in { ends.sink < nodes }
     requires apart { ends.source ≢ ends.sink }
-    ensures { IfOk result (IsMaximumFlow edges.now nodes ends.source ends.sink) }
+    ensures { IfOk result (IsMaximumFlow edges.items nodes ends.source ends.sink) }
 {
-    let mut net = Net::new(alloc, nodes, ends.source, ends.sink)?;
-    for edge in edges {
-        net.add_edge(edge.from, edge.to, edge.cap)?;
-    }
+    let mut net = Net::of_edges(alloc, nodes, ends.source, ends.sink, edges);
     let flowed = net.max_flow(&mut Phases::new())?;
     Ok(flowed)
 }

@@ -2,161 +2,45 @@ ghost use Rattle.std.specs.Prelude.{◌≡◌, ◌<◌, ◌≤◌, ◌*◌, All,
 ghost use Rattle.ofit_cut.specs.Sets.{AreWithin, total_size};
 ghost use Rattle.ofit_cut.specs.Span.{IsOrdered, span_size, total_span};
 
-use crate::{Balanced, Span, Tie, balance_flow, lower_cut, upper_cut};
+use crate::{
+    Balanced, Span, Tie, balance_flow, lower_cut, lower_extremes, upper_cut, upper_extremes,
+};
 use std::alloc::{AllocError, Global};
 use std::test::Fail;
 
-/// Weights of 0 leave all sets equal.
+/// Weights of 0 leave all sets equal, and where the high node alone gains, an upper set has it alone.
 #[test]
-fn ties_of_one_pair(rt: HostRuntime) -> Result<(), Fail> {
+fn cuts_of_one_pair(rt: HostRuntime) -> Result<(), Fail> {
     let smallest = lower_cut(rt.alloc(), &[(0, 1)], &[0, 0], Tie::Smallest)?;
     assert!(rt; !smallest[0] && !smallest[1]);
     let largest = lower_cut(rt.alloc(), &[(0, 1)], &[0, 0], Tie::Largest)?;
     assert!(rt; largest[0] && largest[1]);
-    Ok(())
-}
-
-/// The high node alone gains; a lower set can't have it alone.
-#[test]
-fn upper_and_lower(rt: HostRuntime) -> Result<(), Fail> {
     let upper = upper_cut(rt.alloc(), &[(0, 1)], &[-1, 2])?;
     assert!(rt; !upper[0] && upper[1]);
-    let lower = lower_cut(rt.alloc(), &[(0, 1)], &[-1, 2], Tie::Smallest)?;
-    assert!(rt; lower[0] && lower[1]);
-    let none = lower_cut(rt.alloc(), &[(0, 1)], &[-3, 2], Tie::Largest)?;
-    assert!(rt; !none[0] && !none[1]);
     Ok(())
 }
 
-/// Weights at the limit, and a pair between them.
-#[test]
-fn weights_at_the_limit(rt: HostRuntime) -> Result<(), Fail> {
-    let half = 1_000_000_000_000_000_000_000_000_000_000_000;
-    let upper = upper_cut(rt.alloc(), &[(0, 1)], &[half, -half])?;
-    assert!(rt; !upper[0] && !upper[1]);
-    let lower = lower_cut(rt.alloc(), &[(0, 1)], &[-half, half], Tie::Largest)?;
-    assert!(rt; lower[0] && lower[1]);
-    let whole = upper_cut(rt.alloc(), &[(0, 0)], &[2 * half])?;
-    assert!(rt; whole[0]);
-    Ok(())
-}
-
-/// Nothing to choose from.
-#[test]
-fn no_nodes(rt: HostRuntime) -> Result<(), Fail> {
-    let upper = upper_cut(rt.alloc(), &[], &[])?;
-    assert!(rt; upper.is_empty());
-    let answer = balance_flow(rt.alloc(), &[], &[])?;
-    assert!(rt; matches!(answer, Balanced::Flows(_)));
-    Ok(())
-}
-
-/// A closed span.
-fn within(least: i128, greatest: i128) -> Span
-    ensures { result ≡ record { least = Some least; greatest = Some greatest } }
+/// A span of one balance.
+fn exactly(balance: i128) -> Span
+    ensures { result ≡ record { least = Some balance; greatest = Some balance } }
 {
     Span {
-        least: Some(least),
-        greatest: Some(greatest),
+        least: Some(balance),
+        greatest: Some(balance),
     }
 }
 
-/// What the low node gives, the high one takes.
+/// What the low node gives, the high one takes; nothing can flow from the high one to the low one.
 #[test]
-fn one_flow(rt: HostRuntime) -> Result<(), Fail> {
-    let answer = balance_flow(rt.alloc(), &[(0, 1)], &[within(1, 1), within(-1, -1)])?;
-    match answer {
+fn flows_of_one_pair(rt: HostRuntime) -> Result<(), Fail> {
+    match balance_flow(rt.alloc(), &[(0, 1)], &[exactly(1), exactly(-1)])? {
         Balanced::Flows(amounts) => assert_eq!(rt; amounts.amount(0), 1),
         _ => assert!(rt; false),
     }
-    Ok(())
-}
-
-/// Nothing can flow from the high node to the low one.
-#[test]
-fn high_node_has_to_give(rt: HostRuntime) -> Result<(), Fail> {
-    let answer = balance_flow(rt.alloc(), &[(0, 1)], &[within(-1, -1), within(1, 1)])?;
-    assert!(rt; is_above(&answer, &[1]));
-    Ok(())
-}
-
-/// Whether the answer is the upper set of these nodes.
-fn is_above(answer: &Balanced, nodes: &[u32]) -> bool {
-    match answer {
-        Balanced::Above(members) => members.nodes() == nodes,
-        _ => false,
-    }
-}
-
-/// Whether the answer is the lower set of these nodes.
-fn is_below(answer: &Balanced, nodes: &[u32]) -> bool {
-    match answer {
-        Balanced::Below(members) => members.nodes() == nodes,
-        _ => false,
-    }
-}
-
-/// Open ends on either side, on both and on neither.
-#[test]
-fn open_ends(rt: HostRuntime) -> Result<(), Fail> {
-    let at_most = Span {
-        least: None,
-        greatest: Some(-2),
-    };
-    let at_least = Span {
-        least: Some(2),
-        greatest: None,
-    };
-    let free = Span {
-        least: None,
-        greatest: None,
-    };
-    let above = balance_flow(rt.alloc(), &[(0, 1)], &[free, at_least])?;
-    assert!(rt; is_above(&above, &[1]));
-    let below = balance_flow(rt.alloc(), &[(0, 1)], &[at_most, free])?;
-    assert!(rt; is_below(&below, &[0]));
-    let both = balance_flow(rt.alloc(), &[(0, 1)], &[at_most, at_least])?;
-    assert!(rt; is_above(&both, &[1]));
-    match balance_flow(rt.alloc(), &[(0, 1)], &[free, at_most])? {
-        Balanced::Flows(amounts) => assert!(rt; amounts.amount(0) >= 2),
+    match balance_flow(rt.alloc(), &[(0, 1)], &[exactly(-1), exactly(1)])? {
+        Balanced::Above(members) => assert!(rt; members.nodes() == [1].as_slice()),
         _ => assert!(rt; false),
     }
-    match balance_flow(rt.alloc(), &[(0, 1)], &[at_least, within(-7, -3)])? {
-        Balanced::Flows(amounts) => {
-            assert!(rt; amounts.amount(0) >= 3 && amounts.amount(0) <= 7);
-        }
-        _ => assert!(rt; false),
-    }
-    Ok(())
-}
-
-/// A cycle carries round it, a pair twice splits, and a pair with equal ends carries nothing.
-#[test]
-fn cycles_and_duplicates(rt: HostRuntime) -> Result<(), Fail> {
-    let pairs = [(0, 1), (1, 2), (2, 0), (1, 1), (0, 1)];
-    let spans = [within(-3, -3), within(4, 4), within(-1, -1)];
-    match balance_flow(rt.alloc(), &pairs, &spans)? {
-        Balanced::Flows(amounts) => {
-            assert_eq!(rt; amounts.amount(3), 0);
-            assert!(rt; amounts.amount(1) >= 4);
-        }
-        _ => assert!(rt; false),
-    }
-    let unbalanced = [within(0, 1), within(0, 1), within(1, 1)];
-    let answer = balance_flow(rt.alloc(), &pairs, &unbalanced)?;
-    assert!(rt; is_above(&answer, &[0, 1, 2]));
-    Ok(())
-}
-
-/// Nodes without pairs give and take nothing.
-#[test]
-fn no_pairs(rt: HostRuntime) -> Result<(), Fail> {
-    let answer = balance_flow(rt.alloc(), &[], &[within(-1, 1), within(-2, 0)])?;
-    assert!(rt; matches!(answer, Balanced::Flows(_)));
-    let below = balance_flow(rt.alloc(), &[], &[within(-1, 1), within(-2, -1)])?;
-    assert!(rt; is_below(&below, &[1]));
-    let lower = lower_cut(rt.alloc(), &[], &[-1, 0, 1], Tie::Largest)?;
-    assert!(rt; !lower[0] && lower[1] && lower[2]);
     Ok(())
 }
 
@@ -311,12 +195,12 @@ fn every_set_of_small_orders(rt: HostRuntime) -> Result<(), Fail> {
         let weights = random_weights(rt.alloc(), nodes, &mut seed)?;
         let upper = greatest_sets(&pairs, &weights, true);
         let lower = greatest_sets(&pairs, &weights, false);
-        let set = upper_cut(rt.alloc(), &pairs, &weights)?;
-        assert!(rt; is_set(&set, upper.all), "order {index}");
-        let set = lower_cut(rt.alloc(), &pairs, &weights, Tie::Smallest)?;
-        assert!(rt; is_set(&set, lower.all), "order {index}");
-        let set = lower_cut(rt.alloc(), &pairs, &weights, Tie::Largest)?;
-        assert!(rt; is_set(&set, lower.some), "order {index}");
+        let sets = upper_extremes(rt.alloc(), &pairs, &weights)?;
+        assert!(rt; is_set(&sets.smallest, upper.all), "order {index}");
+        assert!(rt; is_set(&sets.largest, upper.some), "order {index}");
+        let sets = lower_extremes(rt.alloc(), &pairs, &weights)?;
+        assert!(rt; is_set(&sets.smallest, lower.all), "order {index}");
+        assert!(rt; is_set(&sets.largest, lower.some), "order {index}");
     }
     Ok(())
 }

@@ -1,21 +1,23 @@
--- A path followed back from the sink, one edge at a time.
-use Rattle.std.proofs.Common.{◌≡◌, ◌≢◌, ℕ, zero, suc, ◌<◌, ◌≤◌, ◌⊎◌, refl, ap, sym, ◌∙◌, subst, arith, List, [], ◌∷◌, length, Bool, true, false, cond, eqb, inl, inr, get_or, set, Option, Some, None, is_some, not, ◌&&◌, replicate, ◌*◌}
+-- A path from the source to the sink, one step at a time.
+use Rattle.std.proofs.Common.{◌≡◌, ◌≢◌, ℕ, zero, suc, ◌<◌, ◌≤◌, ◌+◌, ◌⊎◌, refl, ap, sym, ◌∙◌, subst, arith, List, [], ◌∷◌, length, Bool, true, false, cond, eqb, inl, inr, get_or, set, Option, Some, map, not, ◌&&◌, replicate, ◌*◌}
 use Rattle.std.proofs.lemmas.Int.{ints}
 use Rattle.std.proofs.lemmas.Bool.{cases_eq, eq-eqb, ne_eqb}
 use borrow.Author.Differences.{up}
 use Rattle.std.specs.List.{All}
-use Rattle.std.proofs.lemmas.List.{get_or-set_same, get_or-set_other, get_or-replicate, get_or_default, length-replicate, length-set}
+use Rattle.std.proofs.lemmas.List.{get_or-set_same, get_or-set_other, get_or-replicate, get_or_default, get_or_past, length-replicate, length-set, length-map}
 use Rattle.std.proofs.lemmas.List.Elements.{All-head, All-tail}
 use Rattle.std.specs.Prelude.{ℤ, pos, negsuc, ◌+ℤ◌, ◌-ℤ◌, ◌≤ℤ◌, ◌<ℤ◌}
 use Rattle.ofit_flow.specs.declared.edge.Edge.{Edge}
-use Rattle.ofit_flow.specs.declared.label.Label.{Label}
+use Rattle.ofit_flow.specs.declared.step.Step.{Step}
 use Rattle.ofit_flow.specs.Flow.{total, no_edge, edge_at, amount_at, given_out, taken_in, value_of, IsWithin, IsFlow}
 use Rattle.ofit_flow.specs.Cut.{IsCut, capacity}
 use Rattle.ofit_flow.specs.Network.{CanAdd}
-use Rattle.ofit_flow.specs.Reach.{IsBlocked}
-use Rattle.ofit_flow.specs.Residual.{other_end, residual, pushed, Touches, IsClosed}
+use Rattle.ofit_flow.specs.Residual.{other_end, residual, pushed, Touches}
 use Rattle.ofit_flow.proofs.Optimal.{value-le-capacity}
-use Rattle.ofit_flow.specs.Labels.{label_at, has_label, IsBelow, IsTraced, IsLabelling, IsWideAt}
+use Rattle.ofit_flow.specs.Levels.{level_at}
+use Rattle.ofit_flow.specs.Search.{height}
+use Rattle.ofit_flow.specs.Walk.{step_at, node_on, no_step, IsPath, IsWay, IsAugmented, FallsOnly, LeadsDown}
+use Rattle.ofit_flow.proofs.Searching.{same_some, height_is}
 use Rattle.ofit_flow.proofs.Crossing.{node_part, net_out, net_out_is}
 
 -- what a change of one amount does to a sum
@@ -91,125 +93,182 @@ IsWithin-set es xs k y h b low high = record {
   other : (i : ℕ) → i ≢ k → amount_at (set xs k y) i ≡ amount_at xs i
   other i isnt = get_or-set_other xs k i y (pos 0) isnt
 
--- the level of a node, 0 without a label
-abbrev pub level_of : Option Label → ℕ
-level_of None = 0
-level_of (Some l) = l.level
+residual-pushed : (e : Edge) (x by : ℤ) (u : ℕ) → residual e (pushed e x u by) u ≡ residual e x u -ℤ by
+residual-pushed e x by u = parted (eqb e.from u) where
+  parted : (b : Bool) → cond b (e.cap -ℤ cond b (x +ℤ by) (x -ℤ by)) (cond b (x +ℤ by) (x -ℤ by)) ≡ cond b (e.cap -ℤ x) x -ℤ by
+  parted true = omega (arith, ints)
+  parted false = omega (arith, ints)
 
--- `by` has been sent from the node to the sink, over edges with an end of a higher level than the node's
-pub record IsBackWay (es : List Edge) (before : List ℤ) (labels : List (Option Label)) (sink : ℕ) (by : ℤ) (node : ℕ) (xs : List ℤ) : Type 0 where
+-- an edge has two ends
+ends_of : (e : Edge) (u w : ℕ) → Touches e u → other_end e u ≡ w → ((e.from ≡ u) × (e.to ≡ w)) ⊎ ((e.from ≡ w) × (e.to ≡ u))
+ends_of e u w t a = elim (cases_eq e.from u) [
+  | inl is ↦ inl (is, sym (ap (λ (b : Bool). cond b e.to e.from) (eq-eqb e.from u is)) ∙ a)
+  | inr isnt ↦ elim t [
+    | inl is ↦ absurd (isnt is)
+    | inr is ↦ inr (sym (ap (λ (b : Bool). cond b e.to e.from) (ne_eqb e.from u isnt)) ∙ a, is)
+  ]
+]
+
+other_way : (e : Edge) (u w : ℕ) → Touches e u → other_end e u ≡ w → u ≢ w → other_end e w ≡ u
+other_way e u w t a d = elim (ends_of e u w t a) [
+  | inl is ↦ ap (λ (b : Bool). cond b e.to e.from) (ne_eqb e.from w (λ h. d (sym is.0 ∙ h))) ∙ is.0
+  | inr is ↦ ap (λ (b : Bool). cond b e.to e.from) (eq-eqb e.from w is.0) ∙ is.1
+]
+
+either_end : (e : Edge) (u w v : ℕ) → Touches e u → other_end e u ≡ w → Touches e v → (v ≡ u) ⊎ (v ≡ w)
+either_end e u w v t a s = elim (ends_of e u w t a) [
+  | inl is ↦ elim s [
+    | inl h ↦ inl (sym h ∙ is.0)
+    | inr h ↦ inr (sym h ∙ is.1)
+  ]
+  | inr is ↦ elim s [
+    | inl h ↦ inr (sym h ∙ is.0)
+    | inr h ↦ inl (sym h ∙ is.1)
+  ]
+]
+
+-- the steps of a path go along different edges, since the levels of an edge's ends sum to what only one step gives
+module _ (es : List Edge) (xs : List ℤ) (levels : List (Option ℕ)) (path : List Step) (source sink : ℕ) (p : IsPath es xs levels path source sink) where
+  path_level : (i : ℕ) → i ≤ length path → height levels (node_on path sink i) ≡ i
+  path_level i b = height_is levels (node_on path sink i) i (p.heights i b)
+
+  pub path_arrives : (i : ℕ) → i < length path → other_end (edge_at es (step_at path i).edge) (node_on path sink i) ≡ node_on path sink (i + 1)
+  path_arrives i b = (p.steps i b).arc.arrives ∙ p.linked i b
+
+  ends_level : (i : ℕ) → i < length path → height levels (edge_at es (step_at path i).edge).from + height levels (edge_at es (step_at path i).edge).to ≡ i + (i + 1)
+  ends_level i b = elim (ends_of (edge_at es (step_at path i).edge) (node_on path sink i) (node_on path sink (i + 1)) (p.steps i b).arc.leaves (path_arrives i b)) [
+    | inl is ↦ omega (arith, ap (height levels) is.0, ap (height levels) is.1, path_level i (omega arith), path_level (i + 1) (omega arith))
+    | inr is ↦ omega (arith, ap (height levels) is.0, ap (height levels) is.1, path_level i (omega arith), path_level (i + 1) (omega arith))
+  ]
+
+  pub other_edge : (i j : ℕ) → i < j → j < length path → (step_at path j).edge ≢ (step_at path i).edge
+  other_edge i j less b is =
+      omega (arith, ends_level i (omega arith), ends_level j b, ap (λ (k : ℕ). height levels (edge_at es k).from + height levels (edge_at es k).to) is)
+
+-- so many steps of a path have carried `by` more since the amounts were `before`
+pub record IsSent (es : List Edge) (before : List ℤ) (path : List Step) (by : ℤ) (i : ℕ) (xs : List ℤ) : Type 0 where
   pub within : IsWithin es xs
-  pub wide : IsWideAt labels node by
-  pub moved : (v : ℕ) → net_out v es xs ≡ net_out v es before +ℤ (at_node node by v -ℤ at_node sink by v)
-  pub untouched : (k : ℕ) → level_of (label_at labels (edge_at es k).from) ≤ level_of (label_at labels node) → level_of (label_at labels (edge_at es k).to) ≤ level_of (label_at labels node) → amount_at xs k ≡ amount_at before k
+  pub untouched : (j : ℕ) → i ≤ j → j < length path → amount_at xs (step_at path j).edge ≡ amount_at before (step_at path j).edge
+  pub moved : (levels : List (Option ℕ)) (source sink : ℕ) → IsPath es before levels path source sink → (v : ℕ) → net_out v es xs ≡ net_out v es before +ℤ (at_node source by v -ℤ at_node (node_on path sink i) by v)
+  pub falls : (levels : List (Option ℕ)) (source sink : ℕ) → IsPath es before levels path source sink → FallsOnly es levels before xs
 
-pub back_way_none : (es : List Edge) (xs : List ℤ) (labels : List (Option Label)) (sink : ℕ) (by : ℤ) → IsWithin es xs → IsWideAt labels sink by → IsBackWay es xs labels sink by sink xs
-back_way_none es xs labels sink by within wide = record {
-  within = within;
-  wide = wide;
-  moved = λ v. none (net_out v es xs) (at_node sink by v);
-  untouched = λ k a b. refl;
+pub sent_none : (es : List Edge) (before : List ℤ) (path : List Step) (by : ℤ) → IsWay es before path by → IsSent es before path by 0 before
+sent_none es before path by way = record {
+  within = way.net.within;
+  untouched = λ j a b. refl;
+  moved = λ levels source sink p v. none (net_out v es before) (at_node source by v) (at_node (node_on path sink 0) by v) (ap (λ (w : ℕ). at_node w by v) p.first);
+  falls = λ levels source sink p k w b t. inl (omega (arith, ints));
 } where
-  none : (a c : ℤ) → a ≡ a +ℤ (c -ℤ c)
-  none a c = omega (arith, ints)
+  none : (a c d : ℤ) → d ≡ c → a ≡ a +ℤ (c -ℤ d)
+  none a c d h = omega (arith, ints)
 
-module _ (es : List Edge) (before : List ℤ) (labels : List (Option Label)) (source sink : ℕ) (by : ℤ) (node : ℕ) (xs : List ℤ) (label : Label) (way : IsBackWay es before labels sink by node xs) (labelling : IsLabelling es before source labels) (found : label_at labels node ≡ Some label) (apart : node ≢ source) (positive : pos 0 ≤ℤ by) where
-  abbrev back_trace : IsTraced es before labels node label
-  back_trace = labelling.traced node label found apart
+-- a further step
+module _ (es : List Edge) (before : List ℤ) (path : List Step) (by : ℤ) (i : ℕ) (xs : List ℤ) (way : IsWay es before path by) (positive : pos 0 ≤ℤ by) (b : i < length path) (h : IsSent es before path by i xs) where
+  abbrev this : Step
+  this = step_at path i
 
-  abbrev back_above : Label
-  back_above = back_trace.before.0
+  abbrev this_edge : Edge
+  this_edge = edge_at es this.edge
 
-  back_below : IsBelow labels label back_above
-  back_below = back_trace.before.1
+  abbrev sent : List ℤ
+  sent = set xs this.edge (pushed this_edge (amount_at xs this.edge) this.from by)
 
-  back_wide : by ≤ℤ label.width
-  back_wide = subst (λ (l : Label). by ≤ℤ l.width) (same_some way.wide.label label (sym way.wide.found ∙ found)) way.wide.wide where
-    same_some : (x y : Label) → Some x ≡ Some y → x ≡ y
-    same_some x y h = cc
+  pub step_numbered : this.edge < length es
+  step_numbered = (way.way.steps i b).arc.numbered
 
-  level_here : level_of (label_at labels node) ≡ label.level
-  level_here = ap level_of found
+  leaves : Touches this_edge this.from
+  leaves = subst (Touches this_edge) (sym (way.way.steps i b).from) (way.way.steps i b).arc.leaves
 
-  level_above : level_of (label_at labels label.from) ≡ back_above.level
-  level_above = ap level_of back_below.found
+  pub step_room : by ≤ℤ residual this_edge (amount_at xs this.edge) this.from
+  step_room =
+      let room : this.room ≡ residual this_edge (amount_at before this.edge) this.from = (way.way.steps i b).room ∙ ap (residual this_edge (amount_at before this.edge)) (sym (way.way.steps i b).from) in
+      let wide : by ≤ℤ this.room = way.wide i no_step b in
+      subst (λ (x : ℤ). by ≤ℤ residual this_edge x this.from) (sym (h.untouched i (omega arith) b)) (omega (arith, ints, room, wide))
 
-  -- the node at the near end of an edge is that of the label, and the other is this one
-  ends : ((edge_at es label.edge).from ≡ label.from) × ((edge_at es label.edge).to ≡ node) ⊎ ((edge_at es label.edge).to ≡ label.from) × ((edge_at es label.edge).from ≡ node)
-  ends = elim (cases_eq (edge_at es label.edge).from label.from) [
-    | inl is ↦ inl (is, ap (λ (b : Bool). cond b (edge_at es label.edge).to (edge_at es label.edge).from) (sym (eq-eqb (edge_at es label.edge).from label.from is)) ∙ back_trace.arrives)
-    | inr isnt ↦ elim back_trace.leaves [
-      | inl is ↦ absurd (isnt is)
-      | inr is ↦ inr (is, ap (λ (b : Bool). cond b (edge_at es label.edge).to (edge_at es label.edge).from) (sym (ne_eqb (edge_at es label.edge).from label.from isnt)) ∙ back_trace.arrives)
+  sent_within : (pos 0 ≤ℤ pushed this_edge (amount_at xs this.edge) this.from by) × (pushed this_edge (amount_at xs this.edge) this.from by ≤ℤ this_edge.cap)
+  sent_within = pushed_within this_edge (amount_at xs this.edge) by this.from (h.within.low this.edge step_numbered) (h.within.high this.edge step_numbered) positive step_room
+
+  this_in : this.edge < length xs
+  this_in = omega (arith, h.within.counted, step_numbered)
+
+  elsewhere : (k : ℕ) → k ≢ this.edge → amount_at sent k ≡ amount_at xs k
+  elsewhere k d = get_or-set_other xs this.edge k (pushed this_edge (amount_at xs this.edge) this.from by) (pos 0) d
+
+  step_moved : (levels : List (Option ℕ)) (source sink : ℕ) → IsPath es before levels path source sink → (v : ℕ) → net_out v es sent ≡ net_out v es before +ℤ (at_node source by v -ℤ at_node (node_on path sink (i + 1)) by v)
+  step_moved levels source sink p v =
+      let from : this.from ≡ node_on path sink i = (p.steps i b).from in
+      let to : other_end this_edge this.from ≡ node_on path sink (i + 1) = ap (other_end this_edge) from ∙ path_arrives es before levels path source sink p i b in
+      let step : net_out v es sent ≡ net_out v es xs +ℤ (at_node this.from by v -ℤ at_node (other_end this_edge this.from) by v) = net_out-pushed es xs this.edge this.from by v h.within.counted step_numbered leaves in
+      joined (net_out v es sent) (net_out v es xs) (net_out v es before) (at_node source by v) (at_node (node_on path sink i) by v) (at_node (node_on path sink (i + 1)) by v) (at_node this.from by v) (at_node (other_end this_edge this.from) by v)
+      step (ap (λ (w : ℕ). at_node w by v) from) (ap (λ (w : ℕ). at_node w by v) to) (h.moved levels source sink p v) where
+        joined : (a x c s n m f t : ℤ) → a ≡ x +ℤ (f -ℤ t) → f ≡ n → t ≡ m → x ≡ c +ℤ (s -ℤ n) → a ≡ c +ℤ (s -ℤ m)
+        joined a x c s n m f t h j k q = omega (arith, ints)
+
+  -- along this step's edge only the way back can carry more
+  falls_here : (levels : List (Option ℕ)) (source sink : ℕ) → IsPath es before levels path source sink → (w : ℕ) → Touches this_edge w → (residual this_edge (amount_at sent this.edge) w ≤ℤ residual this_edge (amount_at xs this.edge) w) ⊎ LeadsDown levels w (other_end this_edge w)
+  falls_here levels source sink p w t =
+      let from : this.from ≡ node_on path sink i = (p.steps i b).from in
+      let to : other_end this_edge this.from ≡ node_on path sink (i + 1) = ap (other_end this_edge) from ∙ path_arrives es before levels path source sink p i b in
+      let low : level_at levels this.from ≡ Some i = ap (level_at levels) from ∙ p.heights i (omega arith) in
+      let high : level_at levels (node_on path sink (i + 1)) ≡ Some (i + 1) = p.heights (i + 1) (omega arith) in
+      elim (either_end this_edge this.from (node_on path sink (i + 1)) w leaves to t) [
+        | inl is ↦
+            let now : amount_at sent this.edge ≡ pushed this_edge (amount_at xs this.edge) this.from by = get_or-set_same xs this.edge (pushed this_edge (amount_at xs this.edge) this.from by) (pos 0) this_in in
+            let less : residual this_edge (pushed this_edge (amount_at xs this.edge) this.from by) this.from ≤ℤ residual this_edge (amount_at xs this.edge) this.from = omega (arith, ints, residual-pushed this_edge (amount_at xs this.edge) by this.from) in
+            inl (subst (λ (v : ℕ). residual this_edge (amount_at sent this.edge) v ≤ℤ residual this_edge (amount_at xs this.edge) v) (sym is) (subst (λ (x : ℤ). residual this_edge x this.from ≤ℤ residual this_edge (amount_at xs this.edge) this.from) (sym now) less))
+        | inr is ↦
+            let apart : this.from ≢ node_on path sink (i + 1) = λ e. omega (arith, same_some i (i + 1) (sym low ∙ ap (level_at levels) e ∙ high)) in
+            let back : other_end this_edge w ≡ this.from = ap (other_end this_edge) is ∙ other_way this_edge this.from (node_on path sink (i + 1)) leaves to apart in
+            inr (record { level = i; here = ap (level_at levels) is ∙ high; there = ap (level_at levels) back ∙ low })
+      ]
+
+  step_falls : (levels : List (Option ℕ)) (source sink : ℕ) → IsPath es before levels path source sink → FallsOnly es levels before sent
+  step_falls levels source sink p k w k_in t = elim (h.falls levels source sink p k w k_in t) [
+    | inr down ↦ inr down
+    | inl less ↦ elim (cases_eq k this.edge) [
+      | inr isnt ↦ inl (subst (λ (x : ℤ). residual (edge_at es k) x w ≤ℤ residual (edge_at es k) (amount_at before k) w) (sym (elsewhere k isnt)) less)
+      | inl is ↦
+          let touches : Touches this_edge w = subst (λ (n : ℕ). Touches (edge_at es n) w) is t in
+          let less' : residual this_edge (amount_at xs this.edge) w ≤ℤ residual this_edge (amount_at before this.edge) w = subst (λ (n : ℕ). residual (edge_at es n) (amount_at xs n) w ≤ℤ residual (edge_at es n) (amount_at before n) w) is less in
+          elim (falls_here levels source sink p w touches) [
+            | inl now ↦ inl (subst (λ (n : ℕ). residual (edge_at es n) (amount_at sent n) w ≤ℤ residual (edge_at es n) (amount_at before n) w) (sym is) (omega (arith, ints, now, less')))
+            | inr down ↦ inr (subst (λ (n : ℕ). LeadsDown levels w (other_end (edge_at es n) w)) (sym is) down)
+          ]
     ]
   ]
 
-  level_at_end : (v w : ℕ) → v ≡ w → level_of (label_at labels v) ≡ level_of (label_at labels w)
-  level_at_end v w h = ap (λ (u : ℕ). level_of (label_at labels u)) h
-
-  same_before : amount_at xs label.edge ≡ amount_at before label.edge
-  same_before = elim ends [
-    | inl e ↦ way.untouched label.edge (omega (arith, level_at_end (edge_at es label.edge).from label.from e.0, level_here, level_above, back_below.higher)) (omega (arith, level_at_end (edge_at es label.edge).to node e.1, level_here))
-    | inr e ↦ way.untouched label.edge (omega (arith, level_at_end (edge_at es label.edge).from node e.1, level_here)) (omega (arith, level_at_end (edge_at es label.edge).to label.from e.0, level_here, level_above, back_below.higher))
-  ]
-
-  pub back_room : by ≤ℤ residual (edge_at es label.edge) (amount_at xs label.edge) label.from
-  back_room = subst (λ (x : ℤ). by ≤ℤ residual (edge_at es label.edge) x label.from) (sym same_before) (omega (arith, ints, back_wide, back_trace.room))
-
-  pub back_numbered : label.edge < length es
-  back_numbered = back_trace.numbered
-
-  pub back_lower : level_of (label_at labels label.from) < level_of (label_at labels node)
-  back_lower = omega (arith, level_here, level_above, back_below.higher)
-
-  back_within : (pos 0 ≤ℤ pushed (edge_at es label.edge) (amount_at xs label.edge) label.from by) × (pushed (edge_at es label.edge) (amount_at xs label.edge) label.from by ≤ℤ (edge_at es label.edge).cap)
-  back_within = pushed_within (edge_at es label.edge) (amount_at xs label.edge) by label.from (way.within.low label.edge back_numbered) (way.within.high label.edge back_numbered) positive back_room
-
-  back_moved : (v : ℕ) → net_out v es (set xs label.edge (pushed (edge_at es label.edge) (amount_at xs label.edge) label.from by)) ≡ net_out v es before +ℤ (at_node label.from by v -ℤ at_node sink by v)
-  back_moved v =
-      let step : net_out v es (set xs label.edge (pushed (edge_at es label.edge) (amount_at xs label.edge) label.from by)) ≡ net_out v es xs +ℤ (at_node label.from by v -ℤ at_node (other_end (edge_at es label.edge) label.from) by v) =
-      net_out-pushed es xs label.edge label.from by v way.within.counted back_numbered back_trace.leaves in
-      let here : at_node (other_end (edge_at es label.edge) label.from) by v ≡ at_node node by v = ap (λ (w : ℕ). at_node w by v) back_trace.arrives in
-      joined (net_out v es (set xs label.edge (pushed (edge_at es label.edge) (amount_at xs label.edge) label.from by))) (net_out v es xs) (net_out v es before) (at_node label.from by v) (at_node (other_end (edge_at es label.edge) label.from) by v) (at_node node by v) (at_node sink by v) step here (way.moved v) where
-        joined : (a x c u w n s : ℤ) → a ≡ x +ℤ (u -ℤ w) → w ≡ n → x ≡ c +ℤ (n -ℤ s) → a ≡ c +ℤ (u -ℤ s)
-        joined a x c u w n s h k m = omega (arith, ints)
-
-  pub back_way_more : IsBackWay es before labels sink by label.from (set xs label.edge (pushed (edge_at es label.edge) (amount_at xs label.edge) label.from by))
-  back_way_more = record {
-    within = IsWithin-set es xs label.edge (pushed (edge_at es label.edge) (amount_at xs label.edge) label.from by) way.within back_numbered back_within.0 back_within.1;
-    wide = record { label = back_above; found = back_below.found; wide = omega (arith, ints, back_wide, back_below.narrower) };
-    moved = back_moved;
-    untouched = λ k f t. elim (cases_eq k label.edge) [
-      | inl is ↦ absurd (elim ends [
-        | inl e ↦ omega (arith, t, ap (λ (i : ℕ). level_of (label_at labels (edge_at es i).to)) is, level_at_end (edge_at es label.edge).to node e.1, back_lower)
-        | inr e ↦ omega (arith, f, ap (λ (i : ℕ). level_of (label_at labels (edge_at es i).from)) is, level_at_end (edge_at es label.edge).from node e.1, back_lower)
-      ])
-      | inr isnt ↦ get_or-set_other xs label.edge k (pushed (edge_at es label.edge) (amount_at xs label.edge) label.from by) (pos 0) isnt ∙ way.untouched k (omega (arith, f, back_lower)) (omega (arith, t, back_lower))
-    ];
+  pub sent_more : IsSent es before path by (i + 1) sent
+  sent_more = record {
+    within = IsWithin-set es xs this.edge (pushed this_edge (amount_at xs this.edge) this.from by) h.within step_numbered sent_within.0 sent_within.1;
+    untouched = λ j a c. elsewhere (step_at path j).edge (other_edge es before way.levels path way.source way.sink way.way i j (omega arith) c) ∙ h.untouched j (omega arith) c;
+    moved = step_moved;
+    falls = step_falls;
   }
 
--- once the source is reached, the flow has risen by `by`
-pub back_way_done : (es : List Edge) (before : List ℤ) (labels : List (Option Label)) (source sink : ℕ) (by : ℤ) (xs : List ℤ) → source ≢ sink → IsFlow es source sink before → IsBackWay es before labels sink by source xs → IsFlow es source sink xs × (value_of es source xs ≡ value_of es source before +ℤ by)
-back_way_done es before labels source sink by xs apart flow way = (
+-- what has moved from the source to the sink alone leaves a flow
+through : (es : List Edge) (before : List ℤ) (source sink : ℕ) (by : ℤ) (xs : List ℤ) → source ≢ sink → IsFlow es source sink before → IsWithin es xs → ((v : ℕ) → net_out v es xs ≡ net_out v es before +ℤ (at_node source by v -ℤ at_node sink by v)) → IsFlow es source sink xs × (value_of es source xs ≡ value_of es source before +ℤ by)
+through es before source sink by xs apart flow within moved = (
   record {
-    within = way.within;
+    within = within;
     conserved = λ v s t.
         let here : at_node source by v ≡ pos 0 = ap (λ (b : Bool). cond b by (pos 0)) (ne_eqb source v (λ e. s (sym e))) in
         let there : at_node sink by v ≡ pos 0 = ap (λ (b : Bool). cond b by (pos 0)) (ne_eqb sink v (λ e. t (sym e))) in
-        omega (arith, ints, here, there, way.moved v, net_out_is v es xs, net_out_is v es before, flow.conserved v s t);
+        omega (arith, ints, here, there, moved v, net_out_is v es xs, net_out_is v es before, flow.conserved v s t);
   },
   let here : at_node source by source ≡ by = ap (λ (b : Bool). cond b by (pos 0)) (eq-eqb source source refl) in
       let there : at_node sink by source ≡ pos 0 = ap (λ (b : Bool). cond b by (pos 0)) (ne_eqb sink source (λ e. apart (sym e))) in
-      omega (arith, ints, here, there, way.moved source, net_out_is source es xs, net_out_is source es before),
+      omega (arith, ints, here, there, moved source, net_out_is source es xs, net_out_is source es before),
 )
 
--- the amounts are a flow of the value, and the labels are those of all nodes that the source reaches
-pub record IsAugmented (es : List Edge) (source sink nodes : ℕ) (xs : List ℤ) (value : ℤ) (labels : List (Option Label)) : Type 0 where
-  pub flow : IsFlow es source sink xs
-  pub valued : value ≡ value_of es source xs
-  pub counted : length labels ≡ nodes
-  pub labelling : IsLabelling es xs source labels
-  pub closed : IsClosed es xs (has_label labels)
+node_past : (path : List Step) (node : ℕ) → node_on path node (length path) ≡ node
+node_past path node = get_or_past (map (λ (s : Step). s.from) path) (length path) node (omega (arith, length-map path (λ (s : Step). s.from)))
+
+-- once all steps have, the flow has risen by `by`
+pub sent_all : (es : List Edge) (before : List ℤ) (path : List Step) (by : ℤ) (xs : List ℤ) (levels : List (Option ℕ)) (source sink : ℕ) → IsSent es before path by (length path) xs → source ≢ sink → IsFlow es source sink before → IsPath es before levels path source sink → IsAugmented es source sink levels before xs by
+sent_all es before path by xs levels source sink h apart flow p =
+    let moved : (v : ℕ) → net_out v es xs ≡ net_out v es before +ℤ (at_node source by v -ℤ at_node sink by v) = λ v. subst (λ (w : ℕ). net_out v es xs ≡ net_out v es before +ℤ (at_node source by v -ℤ at_node w by v)) (node_past path sink) (h.moved levels source sink p v) in
+    let whole = through es before source sink by xs apart flow h.within moved in
+    record { flow = whole.0; value = whole.1; falls = h.falls levels source sink p }
 
 -- the source alone
 abbrev pub only : ℕ → ℕ → Bool
@@ -268,13 +327,6 @@ no_flow es source sink nodes xs adds is = (
 
   nothing_in : (v : ℕ) → taken_in v es xs ≡ pos 0
   nothing_in v = ap (taken_in v es) is ∙ zero_total (λ e. e.to) v es (length es)
-
-pub blocked_from_labels : (es : List Edge) (source sink nodes : ℕ) (xs : List ℤ) (value : ℤ) (labels : List (Option Label)) → IsAugmented es source sink nodes xs value labels → label_at labels sink ≡ None → IsBlocked es source sink xs
-blocked_from_labels es source sink nodes xs value labels h none = record {
-  set = has_label labels;
-  cut = record { has_source = h.labelling.started; lacks_sink = ap is_some none };
-  closed = h.closed;
-}
 
 up_less : (a b : ℤ) → pos 0 ≤ℤ b → b <ℤ a → up b < up a
 up_less (pos m) (pos n) h k = omega (arith, ints)

@@ -2,6 +2,10 @@ pub mod Sums
 pub mod Crossing
 pub mod Optimal
 pub mod Searching
+pub mod Phase
 pub mod Augmenting
-pub mod Rows
+pub mod Listing
+pub mod Walking
 pub mod Sides
+pub mod Block
+pub mod Counting

@@ -1,59 +1,62 @@
 -- A breadth-first search, step by step.
 use Rattle.std.proofs.Common.{◌≡◌, ◌≢◌, ℕ, zero, suc, ◌<◌, ◌≤◌, ◌+◌, ◌⊎◌, refl, ap, sym, ◌∙◌, subst, arith, List, [], ◌∷◌, ◌++◌, length, Bool, true, false, cond, eqb, inl, inr, get_or, set, Option, Some, None, is_some, is_none, below_more, replicate, ◌*◌}
-use Rattle.std.specs.List.{count_by}
+use Rattle.std.specs.List.{count_by, All, Contains}
 use Rattle.std.proofs.lemmas.Int.{ints}
 use Rattle.std.proofs.lemmas.List.Sums.{sum_by-set}
 use Rattle.std.proofs.lemmas.List.Folds.{sum_by-replicate}
 use Rattle.std.proofs.lemmas.Bool.{cases_eq, cases_lt, true≢false, false≢true, eq-eqb, ne_eqb}
 use Rattle.std.proofs.lemmas.List.{get_or-set_same, get_or-set_other, length-set, get_or_append_left, get_or_push, get_or_read, length_push, get_or-replicate, get_or_past, length-replicate}
-use Rattle.std.specs.Prelude.{ℤ, pos, ◌-ℤ◌, ◌≤ℤ◌, ◌<ℤ◌}
+use Rattle.std.proofs.lemmas.List.Elements.{All-contains, Contains-get_or}
+use Rattle.std.specs.Prelude.{ℤ, pos, ◌-ℤ◌, ◌<ℤ◌, unwrap_or}
 use Rattle.ofit_flow.specs.declared.edge.Edge.{Edge}
-use Rattle.ofit_flow.specs.declared.label.Label.{Label}
 use Rattle.ofit_flow.specs.Flow.{edge_at, amount_at}
 use Rattle.ofit_flow.specs.Residual.{other_end, residual, Touches, IsClosedAt, IsClosed}
-use Rattle.std.specs.Global.{Vec}
-use Rattle.std.specs.List.{All, Contains}
-use Rattle.std.proofs.lemmas.List.Elements.{All-contains, Contains-get_or}
-use Rattle.ofit_flow.specs.Incidence.{IsIncidence, row_at}
-use Rattle.ofit_flow.specs.Labels.{label_at, IsLabelled, IsTraced, IsLabelling}
-use Rattle.ofit_flow.specs.Search.{IsSearch, IsQueuedFrom, Extends, IsLedOn, IsVisited}
+use Rattle.ofit_flow.specs.Incidence.{IsIncidence}
+use Rattle.ofit_flow.specs.Levels.{level_at, has_level, IsLevelled, IsArc, IsReached, IsLevelling, LeadsClose, IsSearched}
+use Rattle.ofit_flow.specs.Search.{IsSearch, IsQueuedFrom, Extends, IsLedOn, IsVisited, height, AreAtMost}
 
 some_of : {A : Type 0} (o : Option A) → is_some o ≡ true → (x : A) × (o ≡ Some x)
 some_of None h = absurd (false≢true h)
 some_of (Some x) h = (x, refl)
 
-same_some : {A : Type 0} (x y : A) → Some x ≡ Some y → x ≡ y
+pub same_some : {A : Type 0} (x y : A) → Some x ≡ Some y → x ≡ y
 same_some x y h = cc
 
-none_some : {A : Type 0} (o : Option A) (x : A) → o ≡ None → o ≡ Some x → ⊥
+pub none_some : {A : Type 0} (o : Option A) (x : A) → o ≡ None → o ≡ Some x → ⊥
 none_some o x h k = cc
 
 pub none_of : {A : Type 0} (o : Option A) → is_some o ≡ false → o ≡ None
 none_of None h = refl
 none_of (Some x) h = absurd (true≢false h)
 
--- what reading a node's label gives
-pub label_read : (labels : List (Option Label)) (v : ℕ) (o : Option Label) → v < length labels → o ≡ get_or labels v o → label_at labels v ≡ o
-label_read labels v o b h = sym (get_or_read labels v o b h None)
+-- what reading a node's level gives
+pub level_read : (levels : List (Option ℕ)) (v : ℕ) (o : Option ℕ) → v < length levels → o ≡ get_or levels v o → level_at levels v ≡ o
+level_read levels v o b h = sym (get_or_read levels v o b h None)
 
-pub labelled_from : (labels : List (Option Label)) (v : ℕ) (l : Label) → label_at labels v ≡ Some l → IsLabelled labels v
-labelled_from labels v l h = ap is_some h
+pub levelled_from : (levels : List (Option ℕ)) (v l : ℕ) → level_at levels v ≡ Some l → IsLevelled levels v
+levelled_from levels v l h = ap is_some h
 
-pub label_of : (labels : List (Option Label)) (v : ℕ) → IsLabelled labels v → (l : Label) × (label_at labels v ≡ Some l)
-label_of labels v h = some_of (label_at labels v) h
+pub level_of : (levels : List (Option ℕ)) (v : ℕ) → IsLevelled levels v → (l : ℕ) × (level_at levels v ≡ Some l)
+level_of levels v h = some_of (level_at levels v) h
 
-pub labelled_within : (labels : List (Option Label)) (v : ℕ) → IsLabelled labels v → v < length labels
-labelled_within [] v h = absurd (false≢true h)
-labelled_within (o ∷ labels) zero h = omega arith
-labelled_within (o ∷ labels) (suc v) h = omega (arith, labelled_within labels v h)
+pub height_is : (levels : List (Option ℕ)) (v l : ℕ) → level_at levels v ≡ Some l → height levels v ≡ l
+height_is levels v l h = ap (λ (o : Option ℕ). unwrap_or o 0) h
 
--- a place that gets its label is no longer among those without
-count-set : (labels : List (Option Label)) (w : ℕ) (l : Label) → w < length labels → label_at labels w ≡ None → count_by is_none (set labels w (Some l)) + 1 ≡ count_by is_none labels
-count-set labels w l b h =
-    omega (arith, sum_by-set (λ (o : Option Label). cond (is_none o) 1 0) labels w (Some l) None b, ap {B = ℕ} (λ (o : Option Label). cond (is_none o) 1 0) h)
+pub at_height : (levels : List (Option ℕ)) (v : ℕ) → IsLevelled levels v → level_at levels v ≡ Some (height levels v)
+at_height levels v h = let l = level_of levels v h in l.1 ∙ ap Some (sym (height_is levels v l.0 l.1))
 
-pub Extends-refl : (labels : List (Option Label)) (queue : List ℕ) → Extends labels queue labels queue
-Extends-refl labels queue = record {
+pub levelled_within : (levels : List (Option ℕ)) (v : ℕ) → IsLevelled levels v → v < length levels
+levelled_within [] v h = absurd (false≢true h)
+levelled_within (o ∷ levels) zero h = omega arith
+levelled_within (o ∷ levels) (suc v) h = omega (arith, levelled_within levels v h)
+
+-- a place that gets its level is no longer among those without
+count-set : (levels : List (Option ℕ)) (w l : ℕ) → w < length levels → level_at levels w ≡ None → count_by is_none (set levels w (Some l)) + 1 ≡ count_by is_none levels
+count-set levels w l b h =
+    omega (arith, sum_by-set (λ (o : Option ℕ). cond (is_none o) 1 0) levels w (Some l) None b, ap {B = ℕ} (λ (o : Option ℕ). cond (is_none o) 1 0) h)
+
+pub Extends-refl : (levels : List (Option ℕ)) (queue : List ℕ) → Extends levels queue levels queue
+Extends-refl levels queue = record {
   counted = refl;
   kept = λ v l h. h;
   longer = omega arith;
@@ -61,10 +64,15 @@ Extends-refl labels queue = record {
   fresh = λ v h. inl h;
 }
 
-pub Extends-labelled : (labels : List (Option Label)) (queue : List ℕ) (labels' : List (Option Label)) (queue' : List ℕ) → Extends labels queue labels' queue' → (v : ℕ) → IsLabelled labels v → IsLabelled labels' v
-Extends-labelled labels queue labels' queue' x v h =
-    let l = label_of labels v h in
-    labelled_from labels' v l.0 (x.kept v l.0 l.1)
+pub Extends-levelled : (levels : List (Option ℕ)) (queue : List ℕ) (levels' : List (Option ℕ)) (queue' : List ℕ) → Extends levels queue levels' queue' → (v : ℕ) → IsLevelled levels v → IsLevelled levels' v
+Extends-levelled levels queue levels' queue' x v h =
+    let l = level_of levels v h in
+    levelled_from levels' v l.0 (x.kept v l.0 l.1)
+
+pub Extends-height : (levels : List (Option ℕ)) (queue : List ℕ) (levels' : List (Option ℕ)) (queue' : List ℕ) → Extends levels queue levels' queue' → (v : ℕ) → IsLevelled levels v → height levels' v ≡ height levels v
+Extends-height levels queue levels' queue' x v h =
+    let l = level_of levels v h in
+    height_is levels' v l.0 (x.kept v l.0 l.1) ∙ sym (height_is levels v l.0 l.1)
 
 IsQueuedFrom-longer : (queue queue' : List ℕ) (low low' v : ℕ) → low' ≤ low → length queue ≤ length queue' → ((j : ℕ) → j < length queue → get_or queue' j 0 ≡ get_or queue j 0) → IsQueuedFrom queue low v → IsQueuedFrom queue' low' v
 IsQueuedFrom-longer queue queue' low low' v d longer same q = record {
@@ -74,7 +82,7 @@ IsQueuedFrom-longer queue queue' low low' v d longer same q = record {
   here = same q.place q.within ∙ q.here;
 }
 
-pub Extends-trans : (a : List (Option Label)) (p : List ℕ) (b : List (Option Label)) (q : List ℕ) (c : List (Option Label)) (r : List ℕ) → Extends a p b q → Extends b q c r → Extends a p c r
+pub Extends-trans : (a : List (Option ℕ)) (p : List ℕ) (b : List (Option ℕ)) (q : List ℕ) (c : List (Option ℕ)) (r : List ℕ) → Extends a p b q → Extends b q c r → Extends a p c r
 Extends-trans a p b q c r x y = record {
   counted = y.counted ∙ x.counted;
   kept = λ v l h. y.kept v l (x.kept v l h);
@@ -105,267 +113,334 @@ closed_leads e x u set c t room h = elim (cases_eq e.from u) [
       ]
 ]
 
--- the node w, which had no label, gets one over the edge k from the labelled node u
-module _ (es : List Edge) (xs : List ℤ) (start : ℕ) (labels : List (Option Label)) (queue : List ℕ) (u w k : ℕ) (above l : Label) (search : IsSearch es xs start labels queue) (w_in : w < length labels) (new : label_at labels w ≡ None) (numbered : k < length es) (touches : Touches (edge_at es k) u) (arrives : other_end (edge_at es k) u ≡ w) (from_is : l.from ≡ u) (edge_is : l.edge ≡ k) (found : label_at labels u ≡ Some above) (higher : above.level < l.level) (level_in : l.level ≤ length queue) (narrower : l.width ≤ℤ above.width) (room : l.width ≤ℤ residual (edge_at es k) (amount_at xs k) u) (wide : pos 0 <ℤ l.width) where
-  here : label_at (set labels w (Some l)) w ≡ Some l
-  here = get_or-set_same labels w (Some l) None w_in
+-- levels stand on no node but those of each set that has the start and that no arc leaves
+reached_up_to : (es : List Edge) (xs : List ℤ) (start : ℕ) (levels : List (Option ℕ)) → IsLevelling es xs start levels → (among : ℕ → Bool) → among start ≡ true → IsClosed es xs among → (fuel v l : ℕ) → l ≤ fuel → level_at levels v ≡ Some l → among v ≡ true
+reached_up_to es xs start levels h among has closed zero v l le at = elim (cases_eq v start) [
+  | inl is ↦ ap among is ∙ has
+  | inr isnt ↦ absurd (omega (arith, (h.reached v l at isnt).above))
+]
+reached_up_to es xs start levels h among has closed (suc fuel) v l le at = elim (cases_eq v start) [
+  | inl is ↦ ap among is ∙ has
+  | inr isnt ↦
+      let r : IsReached es xs levels v l = h.reached v l at isnt in
+      ap among (sym r.arc.arrives)
+      ∙ closed_leads (edge_at es r.number) (amount_at xs r.number) r.from among (closed r.number r.arc.numbered) r.arc.leaves r.arc.room
+      (reached_up_to es xs start levels h among has closed fuel r.from r.lower (omega (arith, r.above)) r.below)
+]
 
-  elsewhere : (v : ℕ) → v ≢ w → label_at (set labels w (Some l)) v ≡ label_at labels v
-  elsewhere v d = get_or-set_other labels w v (Some l) None d
+pub levels_reached : (es : List Edge) (xs : List ℤ) (start : ℕ) (levels : List (Option ℕ)) → IsLevelling es xs start levels → (among : ℕ → Bool) → among start ≡ true → IsClosed es xs among → (v : ℕ) → IsLevelled levels v → among v ≡ true
+levels_reached es xs start levels h among has closed v at =
+    let l = level_of levels v at in
+    reached_up_to es xs start levels h among has closed l.0 v l.0 (omega arith) l.1
 
-  kept_label : (v : ℕ) (m : Label) → label_at labels v ≡ Some m → label_at (set labels w (Some l)) v ≡ Some m
-  kept_label v m h = elsewhere v (λ e. none_some (label_at labels w) m new (sym (ap (label_at labels) e) ∙ h)) ∙ h
+-- the node w, which had no level, gets one over the edge k from the node u, a level below
+module _ (es : List Edge) (xs : List ℤ) (start : ℕ) (levels : List (Option ℕ)) (queue : List ℕ) (u w k above : ℕ) (search : IsSearch es xs start levels queue) (w_in : w < length levels) (new : level_at levels w ≡ None) (found : IsLevelled levels u) (above_is : above ≡ height levels u + 1) (top : AreAtMost levels above) (arc : IsArc es xs u k w) where
+  abbrev after : List (Option ℕ)
+  after = set levels w (Some above)
 
-  kept_labelled : (v : ℕ) → IsLabelled labels v → IsLabelled (set labels w (Some l)) v
-  kept_labelled v h = let m = label_of labels v h in labelled_from (set labels w (Some l)) v m.0 (kept_label v m.0 m.1)
+  here : level_at after w ≡ Some above
+  here = get_or-set_same levels w (Some above) None w_in
 
-  kept_traced : (v : ℕ) (m : Label) → IsTraced es xs labels v m → IsTraced es xs (set labels w (Some l)) v m
-  kept_traced v m t = record {
-    numbered = t.numbered;
-    leaves = t.leaves;
-    arrives = t.arrives;
-    room = t.room;
-    before = (
-      t.before.0,
-      record {
-        found = kept_label m.from t.before.0 t.before.1.found;
-        narrower = t.before.1.narrower;
-        higher = t.before.1.higher;
-      },
-    );
-  }
+  elsewhere : (v : ℕ) → v ≢ w → level_at after v ≡ level_at levels v
+  elsewhere v d = get_or-set_other levels w v (Some above) None d
 
-  new_traced : (v : ℕ) (m : Label) → w ≡ v → l ≡ m → IsTraced es xs (set labels w (Some l)) v m
-  new_traced v m here_is is = subst (λ (n : Label). IsTraced es xs (set labels w (Some l)) v n) is (record {
-    numbered = subst (λ (i : ℕ). i < length es) (sym edge_is) numbered;
-    leaves = subst (λ (i : ℕ). Touches (edge_at es i) l.from) (sym edge_is) (subst (λ (i : ℕ). Touches (edge_at es k) i) (sym from_is) touches);
-    arrives = ap (λ (i : ℕ). other_end (edge_at es i) l.from) edge_is ∙ ap (other_end (edge_at es k)) from_is ∙ arrives ∙ here_is;
-    room = subst (λ (i : ℕ). l.width ≤ℤ residual (edge_at es i) (amount_at xs i) l.from) (sym edge_is) (subst (λ (i : ℕ). l.width ≤ℤ residual (edge_at es k) (amount_at xs k) i) (sym from_is) room);
-    before = (
-      above,
-      record {
-        found = ap (label_at (set labels w (Some l))) from_is ∙ kept_label u above found;
-        narrower = narrower;
-        higher = higher;
-      },
-    );
-  })
+  kept_level : (v l : ℕ) → level_at levels v ≡ Some l → level_at after v ≡ Some l
+  kept_level v l h = elsewhere v (λ e. none_some (level_at levels w) l new (sym (ap (level_at levels) e) ∙ h)) ∙ h
 
-  -- each label is an old one or the new one
-  by_label : (v : ℕ) (m : Label) → label_at (set labels w (Some l)) v ≡ Some m → ((w ≡ v) × (l ≡ m)) ⊎ (label_at labels v ≡ Some m)
-  by_label v m h = elim (cases_eq v w) [
-    | inl is ↦ inl (sym is, same_some l m (sym here ∙ ap (label_at (set labels w (Some l))) (sym is) ∙ h))
+  kept_levelled : (v : ℕ) → IsLevelled levels v → IsLevelled after v
+  kept_levelled v h = let l = level_of levels v h in levelled_from after v l.0 (kept_level v l.0 l.1)
+
+  kept_height : (v : ℕ) → IsLevelled levels v → height after v ≡ height levels v
+  kept_height v h = let l = level_of levels v h in height_is after v l.0 (kept_level v l.0 l.1) ∙ sym (height_is levels v l.0 l.1)
+
+  -- each level is an old one or the new one
+  by_level : (v l : ℕ) → level_at after v ≡ Some l → ((w ≡ v) × (above ≡ l)) ⊎ (level_at levels v ≡ Some l)
+  by_level v l h = elim (cases_eq v w) [
+    | inl is ↦ inl (sym is, same_some above l (sym here ∙ ap (level_at after) (sym is) ∙ h))
     | inr isnt ↦ inr (sym (elsewhere v isnt) ∙ h)
   ]
 
-  new_labelling : IsLabelling es xs start (set labels w (Some l))
-  new_labelling = record {
-    started = kept_labelled start search.labelling.started;
-    wide = λ v m h. elim (by_label v m h) [
-      | inl n ↦ subst (λ (t : Label). pos 0 <ℤ t.width) n.1 wide
-      | inr o ↦ search.labelling.wide v m o
+  by_height : (v : ℕ) → ((w ≡ v) × (height after v ≡ above)) ⊎ (height after v ≡ height levels v)
+  by_height v = elim (cases_eq v w) [
+    | inl is ↦ inl (sym is, height_is after v above (ap (level_at after) is ∙ here))
+    | inr isnt ↦ inr (ap (λ (o : Option ℕ). unwrap_or o 0) (elsewhere v isnt))
+  ]
+
+  new_levelling : IsLevelling es xs start after
+  new_levelling = record {
+    started = kept_level start 0 search.levelling.started;
+    reached = λ v l h d. elim (by_level v l h) [
+      | inl n ↦ record {
+        from = u;
+        number = k;
+        lower = height levels u;
+        below = kept_level u (height levels u) (at_height levels u found);
+        arc = subst (λ (z : ℕ). IsArc es xs u k z) n.0 arc;
+        above = sym n.1 ∙ above_is;
+      }
+      | inr o ↦
+          let r = search.levelling.reached v l o d in
+          record { from = r.from; number = r.number; lower = r.lower; below = kept_level r.from r.lower r.below; arc = r.arc; above = r.above }
     ];
-    traced = λ v m h d. elim (by_label v m h) [
-      | inl n ↦ new_traced v m n.0 n.1
-      | inr o ↦ kept_traced v m (search.labelling.traced v m o d)
-    ];
-    reached = λ among has_start closed v h.
-        let m = label_of (set labels w (Some l)) v h in
-        elim (by_label v m.0 m.1) [
-          | inl n ↦ ap among (sym n.0 ∙ sym arrives) ∙ closed_leads (edge_at es k) (amount_at xs k) u among (closed k numbered) touches (omega (arith, ints, room, wide)) (search.labelling.reached among has_start closed u (labelled_from labels u above found))
-          | inr o ↦ search.labelling.reached among has_start closed v (labelled_from labels v m.0 o)
-        ];
   }
 
   at_end : get_or (queue ++ w ∷ []) (length queue) 0 ≡ w
   at_end = get_or_push queue w 0 (length queue) refl
 
-  search_more : IsSearch es xs start (set labels w (Some l)) (queue ++ w ∷ [])
+  before_end : (j : ℕ) → j < length queue → get_or (queue ++ w ∷ []) j 0 ≡ get_or queue j 0
+  before_end j b = get_or_append_left queue (w ∷ []) 0 j b
+
+  pub top_more : AreAtMost after above
+  top_more v = elim (by_height v) [
+    | inl n ↦ omega (arith, n.1)
+    | inr o ↦ omega (arith, o, top v)
+  ]
+
+  place_height : (j : ℕ) → j < length queue → height after (get_or (queue ++ w ∷ []) j 0) ≡ height levels (get_or queue j 0)
+  place_height j b = ap (height after) (before_end j b) ∙ kept_height (get_or queue j 0) (search.queued j b)
+
+  end_height : height after (get_or (queue ++ w ∷ []) (length queue) 0) ≡ above
+  end_height = ap (height after) at_end ∙ height_is after w above here
+
+  rises : (i j : ℕ) → i ≤ j → j < length queue + 1 → height after (get_or (queue ++ w ∷ []) i 0) ≤ height after (get_or (queue ++ w ∷ []) j 0)
+  rises i j le b = elim (cases_lt j (length queue)) [
+    | inl low ↦ omega (arith, place_height i (omega arith), place_height j low, search.rising i j le low)
+    | inr high ↦
+        let is : j ≡ length queue = omega arith in
+        omega (arith, top_more (get_or (queue ++ w ∷ []) i 0), end_height, ap (λ (n : ℕ). height after (get_or (queue ++ w ∷ []) n 0)) is)
+  ]
+
+  search_more : IsSearch es xs start after (queue ++ w ∷ [])
   search_more = record {
-    placed = omega (arith, search.placed, count-set labels w l w_in new, length_push queue w, length-set labels w (Some l));
-    labelling = new_labelling;
-    levels = λ v m h. elim (by_label v m h) [
-      | inl n ↦ omega (arith, length_push queue w, ap (λ (t : Label). t.level) n.1, level_in)
-      | inr o ↦ omega (arith, length_push queue w, search.levels v m o)
+    placed = omega (arith, search.placed, count-set levels w above w_in new, length_push queue w, length-set levels w (Some above));
+    levelling = new_levelling;
+    low = λ v. elim (by_height v) [
+      | inl n ↦ omega (arith, n.1, length_push queue w, above_is, search.low u)
+      | inr o ↦ omega (arith, o, length_push queue w, search.low v)
     ];
     queued = λ j b. elim (cases_eq j (length queue)) [
-      | inl is ↦ subst (λ (v : ℕ). IsLabelled (set labels w (Some l)) v) (sym at_end ∙ ap (λ (i : ℕ). get_or (queue ++ w ∷ []) i 0) (sym is)) (labelled_from (set labels w (Some l)) w l here)
+      | inl is ↦ subst (λ (v : ℕ). IsLevelled after v) (sym at_end ∙ ap (λ (i : ℕ). get_or (queue ++ w ∷ []) i 0) (sym is)) (levelled_from after w above here)
       | inr isnt ↦
           let below : j < length queue = omega (arith, length_push queue w) in
-          rw (get_or_append_left queue (w ∷ []) 0 j below) (kept_labelled (get_or queue j 0) (search.queued j below))
+          rw (get_or_append_left queue (w ∷ []) 0 j below) (kept_levelled (get_or queue j 0) (search.queued j below))
     ];
+    rising = λ i j le b. rises i j le (omega (arith, length_push queue w));
   }
 
-  extends_more : Extends labels queue (set labels w (Some l)) (queue ++ w ∷ [])
+  extends_more : Extends levels queue after (queue ++ w ∷ [])
   extends_more = record {
-    counted = length-set labels w (Some l);
-    kept = kept_label;
+    counted = length-set levels w (Some above);
+    kept = kept_level;
     longer = omega (arith, length_push queue w);
-    same = λ j b. get_or_append_left queue (w ∷ []) 0 j b;
+    same = before_end;
     fresh = λ v h.
-        let m = label_of (set labels w (Some l)) v h in
-        elim (by_label v m.0 m.1) [
+        let l = level_of after v h in
+        elim (by_level v l.0 l.1) [
           | inl n ↦ inr (record { place = length queue; from_low = omega arith; within = omega (arith, length_push queue w); here = at_end ∙ n.0 })
-          | inr o ↦ inl (labelled_from labels v m.0 o)
+          | inr o ↦ inl (levelled_from levels v l.0 o)
         ];
   }
 
-  pub search_step : IsSearch es xs start (set labels w (Some l)) (queue ++ w ∷ []) × Extends labels queue (set labels w (Some l)) (queue ++ w ∷ []) × IsLabelled (set labels w (Some l)) w
-  search_step = (search_more, extends_more, labelled_from (set labels w (Some l)) w l here)
+  pub search_step : IsSearch es xs start after (queue ++ w ∷ []) × Extends levels queue after (queue ++ w ∷ []) × IsLevelled after w
+  search_step = (search_more, extends_more, levelled_from after w above here)
 
-pub IsVisited-kept : (es : List Edge) (xs : List ℤ) (labels : List (Option Label)) (queue : List ℕ) (labels' : List (Option Label)) (queue' : List ℕ) → Extends labels queue labels' queue' → (v : ℕ) → IsVisited es xs labels v → IsVisited es xs labels' v
-IsVisited-kept es xs labels queue labels' queue' x v h = λ k b t room. Extends-labelled labels queue labels' queue' x (other_end (edge_at es k) v) (h k b t room)
+-- so many of a node's edges have been followed since the levels were `levels` and the queue was `queue`
+pub record IsPartWay (es : List Edge) (xs : List ℤ) (row : List ℕ) (node start : ℕ) (levels : List (Option ℕ)) (queue : List ℕ) (count start' : ℕ) (levels' : List (Option ℕ)) (queue' : List ℕ) : Type 0 where
+  pub start_same : start' ≡ start
+  pub search : IsSearch es xs start' levels' queue'
+  pub extends : Extends levels queue levels' queue'
+  pub top : AreAtMost levels' (height levels node + 1)
+  pub led_on : (i : ℕ) → i < count → IsLedOn (edge_at es (get_or row i 0)) (amount_at xs (get_or row i 0)) node levels'
 
--- every labelled node has been visited, or waits in the queue
-abbrev pub IsPending : List Edge → List ℤ → List (Option Label) → List ℕ → ℕ → Type 0
-IsPending es xs labels queue next = (v : ℕ) → IsLabelled labels v → IsVisited es xs labels v ⊎ IsQueuedFrom queue next v
+pub part_way_more : (es : List Edge) (xs : List ℤ) (row : List ℕ) (node start : ℕ) (levels : List (Option ℕ)) (queue : List ℕ) (count start' : ℕ) (levels' : List (Option ℕ)) (queue' : List ℕ) (start'' : ℕ) (levels'' : List (Option ℕ)) (queue'' : List ℕ) → IsPartWay es xs row node start levels queue count start' levels' queue' → start'' ≡ start' → IsSearch es xs start'' levels'' queue'' → Extends levels' queue' levels'' queue'' → AreAtMost levels'' (height levels node + 1) → IsLedOn (edge_at es (get_or row count 0)) (amount_at xs (get_or row count 0)) node levels'' → IsPartWay es xs row node start levels queue (count + 1) start'' levels'' queue''
+part_way_more es xs row node start levels queue count start' levels' queue' start'' levels'' queue'' p same search x top led = record {
+  start_same = same ∙ p.start_same;
+  search = search;
+  extends = Extends-trans levels queue levels' queue' levels'' queue'' p.extends x;
+  top = top;
+  led_on = below_more (λ (i : ℕ). IsLedOn (edge_at es (get_or row i 0)) (amount_at xs (get_or row i 0)) node levels'') count
+      (λ i b room. Extends-levelled levels' queue' levels'' queue'' x (other_end (edge_at es (get_or row i 0)) node) (p.led_on i b room)) led;
+}
 
-pub pending_more : (es : List Edge) (xs : List ℤ) (labels : List (Option Label)) (queue : List ℕ) (labels' : List (Option Label)) (queue' : List ℕ) (next : ℕ) → next < length queue → IsPending es xs labels queue next → Extends labels queue labels' queue' → IsVisited es xs labels' (get_or queue next 0) → IsPending es xs labels' queue' (next + 1)
-pending_more es xs labels queue labels' queue' next b p x done v h = elim (x.fresh v h) [
-  | inr new ↦ inr (IsQueuedFrom-longer queue' queue' (length queue) (next + 1) v (omega arith) (omega arith) (λ j l. refl) new)
-  | inl old ↦ elim (p v old) [
-    | inl visited ↦ inl (IsVisited-kept es xs labels queue labels' queue' x v visited)
-    | inr waits ↦ elim (cases_eq next waits.place) [
-      | inl is ↦ inl (subst (IsVisited es xs labels') (ap (λ (i : ℕ). get_or queue i 0) is ∙ waits.here) done)
-      | inr isnt ↦ inr (IsQueuedFrom-longer queue queue' (next + 1) (next + 1) v (omega arith) x.longer x.same (record { place = waits.place; from_low = omega (arith, waits.from_low); within = waits.within; here = waits.here }))
-    ]
-  ]
+no_level : (n v : ℕ) → level_at (replicate {A = Option ℕ} n None) v ≡ None
+no_level n v = elim (cases_lt v n) [
+  | inl b ↦ get_or-replicate n v None None b
+  | inr b ↦ get_or_past (replicate n None) v None (omega (arith, length-replicate {A = Option ℕ} n None))
 ]
 
--- where all labelled nodes have been visited, no residual arc leaves them
-pub closed_from_visited : (es : List Edge) (xs : List ℤ) (labels : List (Option Label)) → ((v : ℕ) → IsLabelled labels v → IsVisited es xs labels v) → IsClosed es xs (λ v. is_some (label_at labels v))
-closed_from_visited es xs labels visited k b =
+-- a search that has reached its start alone
+module _ (es : List Edge) (xs : List ℤ) (n start : ℕ) (b : start < n) where
+  abbrev alone : List (Option ℕ)
+  alone = set (replicate n None) start (Some 0)
+
+  first_within : start < length (replicate {A = Option ℕ} n None)
+  first_within = omega (arith, length-replicate {A = Option ℕ} n None)
+
+  first_here : level_at alone start ≡ Some 0
+  first_here = get_or-set_same (replicate n None) start (Some 0) None first_within
+
+  first_other : (v : ℕ) → v ≢ start → level_at alone v ≡ None
+  first_other v isnt = get_or-set_other (replicate n None) start v (Some 0) None isnt ∙ no_level n v
+
+  first_only : (v l : ℕ) → level_at alone v ≡ Some l → start ≡ v
+  first_only v l h = elim (cases_eq v start) [
+    | inl is ↦ sym is
+    | inr isnt ↦ absurd (none_some (level_at alone v) l (first_other v isnt) h)
+  ]
+
+  pub low_first : AreAtMost alone 0
+  low_first v = elim (cases_eq v start) [
+    | inl is ↦ omega (arith, height_is alone v 0 (ap (level_at alone) is ∙ first_here))
+    | inr isnt ↦ omega (arith, ap (λ (o : Option ℕ). unwrap_or o 0) (first_other v isnt))
+  ]
+
+  pub search_first : IsSearch es xs start alone (start ∷ [])
+  search_first =
+      let all : count_by is_none (replicate {A = Option ℕ} n None) ≡ n * 1 = sum_by-replicate (λ (o : Option ℕ). cond (is_none o) 1 0) n None in
+      let same : length alone ≡ length (replicate {A = Option ℕ} n None) = length-set {A = Option ℕ} (replicate n None) start (Some 0) in
+      record {
+        placed = omega (arith, count-set (replicate n None) start 0 first_within (no_level n start), all, length-replicate {A = Option ℕ} n None, same);
+        levelling = record {
+          started = first_here;
+          reached = λ v l h d. absurd (d (sym (first_only v l h)));
+        };
+        low = λ v. omega (arith, low_first v);
+        queued = λ j h.
+            let first : 0 ≡ j = omega arith in
+            subst (λ (i : ℕ). IsLevelled alone (get_or (start ∷ []) i 0)) first (levelled_from alone start 0 first_here);
+        rising = λ i j le h. omega (arith, low_first (get_or (start ∷ []) i 0));
+      }
+
+  pub queued_first : (v : ℕ) → IsLevelled alone v → IsQueuedFrom (start ∷ []) 0 v
+  queued_first v h =
+      let l = level_of alone v h in
+      record { place = 0; from_low = omega arith; within = omega arith; here = first_only v l.0 l.1 }
+
+-- each arc from a visited node leads to one with a level, at most one level up
+abbrev pub IsFollowed : List Edge → List ℤ → List (Option ℕ) → ℕ → Type 0
+IsFollowed es xs levels v = LeadsClose es xs levels v (height levels v)
+
+followed_from : (es : List Edge) (xs : List ℤ) (levels : List (Option ℕ)) (v : ℕ) → AreAtMost levels (height levels v + 1) → IsVisited es xs levels v → IsFollowed es xs levels v
+followed_from es xs levels v top visited k to arc =
+    let found : IsLevelled levels to = subst (IsLevelled levels) arc.arrives (visited k arc.numbered arc.leaves arc.room) in
+    record { level = height levels to; found = at_height levels to found; at_most = top to }
+
+IsFollowed-kept : (es : List Edge) (xs : List ℤ) (levels : List (Option ℕ)) (queue : List ℕ) (levels' : List (Option ℕ)) (queue' : List ℕ) → Extends levels queue levels' queue' → (v : ℕ) → IsLevelled levels v → IsFollowed es xs levels v → IsFollowed es xs levels' v
+IsFollowed-kept es xs levels queue levels' queue' x v at h k to arc =
+    let r = h k to arc in
+    record { level = r.level; found = x.kept to r.level r.found; at_most = omega (arith, r.at_most, Extends-height levels queue levels' queue' x v at) }
+
+-- every node with a level has been followed, or waits in the queue
+abbrev pub IsPending : List Edge → List ℤ → List (Option ℕ) → List ℕ → ℕ → Type 0
+IsPending es xs levels queue next = (v : ℕ) → IsLevelled levels v → IsFollowed es xs levels v ⊎ IsQueuedFrom queue next v
+
+-- a search that has visited the first `next` nodes of its queue
+pub record IsUnderWay (es : List Edge) (xs : List ℤ) (nodes start start' : ℕ) (levels : List (Option ℕ)) (queue : List ℕ) (next : ℕ) : Type 0 where
+  pub start_same : start' ≡ start
+  pub counted : length levels ≡ nodes
+  pub search : IsSearch es xs start' levels queue
+  pub next_in : next ≤ length queue
+  pub top : next < length queue → AreAtMost levels (height levels (get_or queue next 0) + 1)
+  pub pending : IsPending es xs levels queue next
+
+pub under_way_first : (es : List Edge) (xs : List ℤ) (nodes start start' : ℕ) (levels : List (Option ℕ)) (queue : List ℕ) → start' ≡ start → length levels ≡ nodes → IsSearch es xs start' levels queue → ((v : ℕ) → IsLevelled levels v → IsQueuedFrom queue 0 v) → AreAtMost levels 0 → IsUnderWay es xs nodes start start' levels queue 0
+under_way_first es xs nodes start start' levels queue same counted search waiting low = record {
+  start_same = same;
+  counted = counted;
+  search = search;
+  next_in = omega arith;
+  top = λ b v. omega (arith, low v);
+  pending = λ v h. inr (waiting v h);
+}
+
+-- what reading the next place of the queue gives
+pub next_read : {es : List Edge} {xs : List ℤ} {nodes start start' : ℕ} {levels : List (Option ℕ)} {queue : List ℕ} {next node : ℕ} → IsUnderWay es xs nodes start start' levels queue next → next < length queue → node ≡ get_or queue next node → (node ≡ get_or queue next 0) × (node < nodes) × IsLevelled levels node × AreAtMost levels (height levels node + 1)
+next_read {levels = levels} {queue} {next} {node} u b h =
+    let is : node ≡ get_or queue next 0 = get_or_read queue next node b h 0 in
+    let at : IsLevelled levels node = subst (IsLevelled levels) (sym is) (u.search.queued next b) in
+    (is, omega (arith, u.counted, levelled_within levels node at), at, subst (λ (v : ℕ). AreAtMost levels (height levels v + 1)) (sym is) (u.top b))
+
+pub under_way_more : {es : List Edge} {xs : List ℤ} {nodes start start' : ℕ} {levels : List (Option ℕ)} {queue : List ℕ} {next node start'' : ℕ} {levels' : List (Option ℕ)} {queue' : List ℕ} → IsUnderWay es xs nodes start start' levels queue next → next < length queue → node ≡ get_or queue next 0 → start'' ≡ start' → IsSearch es xs start'' levels' queue' → Extends levels queue levels' queue' → AreAtMost levels' (height levels node + 1) → IsVisited es xs levels' node → IsUnderWay es xs nodes start start'' levels' queue' (next + 1)
+under_way_more {es} {xs} {nodes} {start} {start'} {levels} {queue} {next} {node} {start''} {levels'} {queue'} u b is same search x top done =
+    let at : IsLevelled levels node = subst (IsLevelled levels) (sym is) (u.search.queued next b) in
+    let level : height levels' node ≡ height levels node = Extends-height levels queue levels' queue' x node at in
+    let top' : AreAtMost levels' (height levels' node + 1) = λ v. omega (arith, top v, level) in
+    let place : get_or queue' next 0 ≡ node = x.same next b ∙ sym is in
+    record {
+      start_same = same ∙ u.start_same;
+      counted = x.counted ∙ u.counted;
+      search = search;
+      next_in = omega (arith, x.longer);
+      top = λ more v. omega (arith, top' v, search.rising next (next + 1) (omega arith) more, ap (height levels') place);
+      pending = λ v h. elim (x.fresh v h) [
+        | inr new ↦ inr (IsQueuedFrom-longer queue' queue' (length queue) (next + 1) v (omega arith) (omega arith) (λ j l. refl) new)
+        | inl old ↦ elim (u.pending v old) [
+          | inl followed ↦ inl (IsFollowed-kept es xs levels queue levels' queue' x v old followed)
+          | inr waits ↦ elim (cases_eq next waits.place) [
+            | inl here ↦ inl (subst (IsFollowed es xs levels') (is ∙ ap (λ (i : ℕ). get_or queue i 0) here ∙ waits.here) (followed_from es xs levels' node top' done))
+            | inr isnt ↦ inr (IsQueuedFrom-longer queue queue' (next + 1) (next + 1) v (omega arith) x.longer x.same (record { place = waits.place; from_low = omega (arith, waits.from_low); within = waits.within; here = waits.here }))
+          ]
+        ]
+      ];
+    }
+
+-- where each arc from a node with a level leads to one with a level, no residual arc leaves them
+closed_from_followed : (es : List Edge) (xs : List ℤ) (levels : List (Option ℕ)) → ((v k to : ℕ) → IsLevelled levels v → IsArc es xs v k to → IsLevelled levels to) → IsClosed es xs (has_level levels)
+closed_from_followed es xs levels leads k b =
     let e = edge_at es k in
     let x = amount_at xs k in
     record {
       forwards = λ h m.
           let yes : eqb e.from e.from ≡ true = eq-eqb e.from e.from refl in
-          let to : IsLabelled labels (other_end e e.from) = visited e.from h k b (inl refl) (subst (λ (t : Bool). pos 0 <ℤ cond t (e.cap -ℤ x) x) (sym yes) (omega (arith, ints, m))) in
-          subst (λ (t : Bool). IsLabelled labels (cond t e.to e.from)) yes to;
+          leads e.from k e.to h (record {
+            numbered = b;
+            leaves = inl refl;
+            arrives = ap (λ (t : Bool). cond t e.to e.from) yes;
+            room = subst (λ (t : Bool). pos 0 <ℤ cond t (e.cap -ℤ x) x) (sym yes) (omega (arith, ints, m));
+          });
       backwards = λ h m. elim (cases_eq e.from e.to) [
-        | inl is ↦ ap (λ (v : ℕ). is_some (label_at labels v)) is ∙ h
+        | inl is ↦ ap (has_level levels) is ∙ h
         | inr isnt ↦
             let no : eqb e.from e.to ≡ false = ne_eqb e.from e.to isnt in
-            let from : IsLabelled labels (other_end e e.to) = visited e.to h k b (inr refl) (subst (λ (t : Bool). pos 0 <ℤ cond t (e.cap -ℤ x) x) (sym no) m) in
-            subst (λ (t : Bool). IsLabelled labels (cond t e.to e.from)) no from
+            leads e.to k e.from h (record {
+              numbered = b;
+              leaves = inr refl;
+              arrives = ap (λ (t : Bool). cond t e.to e.from) no;
+              room = subst (λ (t : Bool). pos 0 <ℤ cond t (e.cap -ℤ x) x) (sym no) m;
+            })
       ];
     }
 
-pub pending_done : (es : List Edge) (xs : List ℤ) (labels : List (Option Label)) (queue : List ℕ) (next : ℕ) → length queue ≤ next → IsPending es xs labels queue next → IsClosed es xs (λ v. is_some (label_at labels v))
-pending_done es xs labels queue next b p = closed_from_visited es xs labels (λ v h. elim (p v h) [
-  | inl visited ↦ visited
-  | inr waits ↦ absurd (omega (arith, waits.from_low, waits.within))
-])
-
--- so many of a node's edges have been followed since the labels were `labels` and the queue was `queue`
-pub record IsPartWay (es : List Edge) (xs : List ℤ) (row : List ℕ) (node : ℕ) (start : ℕ) (labels : List (Option Label)) (queue : List ℕ) (count start' : ℕ) (labels' : List (Option Label)) (queue' : List ℕ) : Type 0 where
-  pub start_same : start' ≡ start
-  pub search : IsSearch es xs start' labels' queue'
-  pub extends : Extends labels queue labels' queue'
-  pub led_on : (i : ℕ) → i < count → IsLedOn (edge_at es (get_or row i 0)) (amount_at xs (get_or row i 0)) node labels'
-
-pub part_way_more : (es : List Edge) (xs : List ℤ) (row : List ℕ) (node start : ℕ) (labels : List (Option Label)) (queue : List ℕ) (count start' : ℕ) (labels' : List (Option Label)) (queue' : List ℕ) (start'' : ℕ) (labels'' : List (Option Label)) (queue'' : List ℕ) → IsPartWay es xs row node start labels queue count start' labels' queue' → start'' ≡ start' → IsSearch es xs start'' labels'' queue'' → Extends labels' queue' labels'' queue'' → IsLedOn (edge_at es (get_or row count 0)) (amount_at xs (get_or row count 0)) node labels'' → IsPartWay es xs row node start labels queue (count + 1) start'' labels'' queue''
-part_way_more es xs row node start labels queue count start' labels' queue' start'' labels'' queue'' p same search x led = record {
-  start_same = same ∙ p.start_same;
-  search = search;
-  extends = Extends-trans labels queue labels' queue' labels'' queue'' p.extends x;
-  led_on = below_more (λ (i : ℕ). IsLedOn (edge_at es (get_or row i 0)) (amount_at xs (get_or row i 0)) node labels'') count
-      (λ i b room. Extends-labelled labels' queue' labels'' queue'' x (other_end (edge_at es (get_or row i 0)) node) (p.led_on i b room)) led;
-}
-
-no_label : (n v : ℕ) → label_at (replicate {A = Option Label} n None) v ≡ None
-no_label n v = elim (cases_lt v n) [
-  | inl b ↦ get_or-replicate n v None None b
-  | inr b ↦ get_or_past (replicate n None) v None (omega (arith, length-replicate {A = Option Label} n None))
-]
-
--- a search that has reached its start alone
-module _ (es : List Edge) (xs : List ℤ) (n start : ℕ) (l : Label) (b : start < n) (level : l.level ≡ 0) (wide : pos 0 <ℤ l.width) where
-  first_within : start < length (replicate {A = Option Label} n None)
-  first_within = omega (arith, length-replicate {A = Option Label} n None)
-
-  first_here : label_at (set (replicate n None) start (Some l)) start ≡ Some l
-  first_here = get_or-set_same (replicate n None) start (Some l) None first_within
-
-  first_only : (v : ℕ) (m : Label) → label_at (set (replicate n None) start (Some l)) v ≡ Some m → (start ≡ v) × (l ≡ m)
-  first_only v m h = elim (cases_eq v start) [
-    | inl is ↦ (sym is, same_some l m (sym first_here ∙ ap (label_at (set (replicate n None) start (Some l))) (sym is) ∙ h))
-    | inr isnt ↦ absurd (none_some (label_at (set (replicate n None) start (Some l)) v) m (get_or-set_other (replicate n None) start v (Some l) None isnt ∙ no_label n v) h)
-  ]
-
-  pub search_first : IsSearch es xs start (set (replicate n None) start (Some l)) (start ∷ [])
-  search_first =
-      let all : count_by is_none (replicate {A = Option Label} n None) ≡ n * 1 = sum_by-replicate (λ (o : Option Label). cond (is_none o) 1 0) n None in
-      record {
-        placed = omega (arith, count-set (replicate n None) start l first_within (no_label n start), all, length-replicate {A = Option Label} n None, length-set (replicate n None) start (Some l));
-        labelling = record {
-          started = labelled_from (set (replicate n None) start (Some l)) start l first_here;
-          wide = λ v m h. subst (λ (t : Label). pos 0 <ℤ t.width) (first_only v m h).1 wide;
-          traced = λ v m h d. absurd (d (sym (first_only v m h).0));
-          reached = λ among has_start closed v h.
-              let m = label_of (set (replicate n None) start (Some l)) v h in
-              ap among (sym (first_only v m.0 m.1).0) ∙ has_start;
-        };
-        levels = λ v m h. omega (arith, ap (λ (t : Label). t.level) (first_only v m h).1, level);
-        queued = λ j h.
-            let first : 0 ≡ j = omega arith in
-            subst (λ (i : ℕ). IsLabelled (set (replicate n None) start (Some l)) (get_or (start ∷ []) i 0)) first (labelled_from (set (replicate n None) start (Some l)) start l first_here);
-      }
-
-  pub queued_first : (v : ℕ) → IsLabelled (set (replicate n None) start (Some l)) v → IsQueuedFrom (start ∷ []) 0 v
-  queued_first v h =
-      let m = label_of (set (replicate n None) start (Some l)) v h in
-      record { place = 0; from_low = omega arith; within = omega arith; here = (first_only v m.0 m.1).0 }
-
--- a search that has visited the first `next` nodes of its queue
-pub record IsUnderWay (es : List Edge) (xs : List ℤ) (nodes start start' : ℕ) (labels : List (Option Label)) (queue : List ℕ) (next : ℕ) : Type 0 where
-  pub start_same : start' ≡ start
-  pub counted : length labels ≡ nodes
-  pub search : IsSearch es xs start' labels queue
-  pub next_in : next ≤ length queue
-  pub pending : IsPending es xs labels queue next
-
-pub under_way_first : (es : List Edge) (xs : List ℤ) (nodes start start' : ℕ) (labels : List (Option Label)) (queue : List ℕ) → start' ≡ start → length labels ≡ nodes → IsSearch es xs start' labels queue → ((v : ℕ) → IsLabelled labels v → IsQueuedFrom queue 0 v) → IsUnderWay es xs nodes start start' labels queue 0
-under_way_first es xs nodes start start' labels queue same counted search waiting = record {
-  start_same = same;
-  counted = counted;
-  search = search;
-  next_in = omega arith;
-  pending = λ v h. inr (waiting v h);
-}
-
--- what reading the next place of the queue gives
-pub next_read : (es : List Edge) (xs : List ℤ) (nodes start start' : ℕ) (labels : List (Option Label)) (queue : List ℕ) (next node : ℕ) → IsUnderWay es xs nodes start start' labels queue next → next < length queue → node ≡ get_or queue next node → (node ≡ get_or queue next 0) × (node < nodes)
-next_read es xs nodes start start' labels queue next node u b h =
-    let is : node ≡ get_or queue next 0 = get_or_read queue next node b h 0 in
-    (is, omega (arith, is, u.counted, labelled_within labels (get_or queue next 0) (u.search.queued next b)))
-
-pub under_way_more : (es : List Edge) (xs : List ℤ) (nodes start start' : ℕ) (labels : List (Option Label)) (queue : List ℕ) (next start'' : ℕ) (labels' : List (Option Label)) (queue' : List ℕ) → IsUnderWay es xs nodes start start' labels queue next → next < length queue → start'' ≡ start' → IsSearch es xs start'' labels' queue' → Extends labels queue labels' queue' → IsVisited es xs labels' (get_or queue next 0) → IsUnderWay es xs nodes start start'' labels' queue' (next + 1)
-under_way_more es xs nodes start start' labels queue next start'' labels' queue' u b same search x done = record {
-  start_same = same ∙ u.start_same;
-  counted = x.counted ∙ u.counted;
-  search = search;
-  next_in = omega (arith, x.longer);
-  pending = pending_more es xs labels queue labels' queue' next b u.pending x done;
+-- a search that has come to its end, since no node waits or since the goal has a level
+pub searched_from : {es : List Edge} {xs : List ℤ} {nodes start start' : ℕ} {levels : List (Option ℕ)} {queue : List ℕ} {next : ℕ} (goal : ℕ) → IsUnderWay es xs nodes start start' levels queue next → (level_at levels goal ≡ None → length queue ≤ next) → IsSearched es xs start goal levels
+searched_from {es} {xs} {nodes} {start} {start'} {levels} {queue} {next} goal u ended = record {
+  levelling = subst (λ (s : ℕ). IsLevelling es xs s levels) u.start_same u.search.levelling;
+  low = λ v l h. omega (arith, height_is levels v l h, u.search.low v, u.search.placed);
+  steady = λ v l last h g far. elim (u.pending v (levelled_from levels v l h)) [
+    | inl followed ↦ subst (LeadsClose es xs levels v) (height_is levels v l h) followed
+    | inr waits ↦
+        let here : height levels (get_or queue waits.place 0) ≡ l = ap (height levels) waits.here ∙ height_is levels v l h in
+        absurd (omega (arith, here, far, height_is levels goal last g, u.top (omega (arith, waits.from_low, waits.within)) goal, u.search.rising next waits.place waits.from_low waits.within))
+  ];
+  closed = λ none. closed_from_followed es xs levels (λ v k to at arc. elim (u.pending v at) [
+    | inl followed ↦ let r = followed k to arc in levelled_from levels to r.level r.found
+    | inr waits ↦ absurd (omega (arith, ended none, waits.from_low, waits.within))
+  ]);
 }
 
 -- a row has every edge of its node
-pub visited_by_row : (es : List Edge) (xs : List ℤ) (labels : List (Option Label)) (nodes v : ℕ) (rows : List (Vec ℕ)) → IsIncidence es nodes (length es) rows → All (λ k. IsLedOn (edge_at es k) (amount_at xs k) v labels) (row_at rows v) → IsVisited es xs labels v
-visited_by_row es xs labels nodes v rows inc led k b touches =
-    let listed : Contains (row_at rows v) k = elim touches [
-      | inl is ↦ subst (λ (n : ℕ). Contains (row_at rows n) k) is (inc.from_listed k b)
-      | inr is ↦ subst (λ (n : ℕ). Contains (row_at rows n) k) is (inc.to_listed k b)
-    ] in
-    All-contains (λ (i : ℕ). IsLedOn (edge_at es i) (amount_at xs i) v labels) (row_at rows v) k led listed
+pub listed : (es : List Edge) (nodes v : ℕ) (row : ℕ → List ℕ) → IsIncidence es nodes row → (k : ℕ) → k < length es → Touches (edge_at es k) v → Contains (row v) k
+listed es nodes v row inc k b touches = elim touches [
+  | inl is ↦ subst (λ (n : ℕ). Contains (row n) k) is (inc.from_listed k b)
+  | inr is ↦ subst (λ (n : ℕ). Contains (row n) k) is (inc.to_listed k b)
+]
 
-pub row_below : (es : List Edge) (nodes v : ℕ) (rows : List (Vec ℕ)) → IsIncidence es nodes (length es) rows → All (λ k. k < length es) (row_at rows v)
-row_below es nodes v rows inc k d b = inc.below v (get_or (row_at rows v) k d) (Contains-get_or (row_at rows v) k d b)
+pub visited_by_row : (es : List Edge) (xs : List ℤ) (levels : List (Option ℕ)) (nodes v : ℕ) (row : ℕ → List ℕ) → IsIncidence es nodes row → All (λ k. IsLedOn (edge_at es k) (amount_at xs k) v levels) (row v) → IsVisited es xs levels v
+visited_by_row es xs levels nodes v row inc led k b touches =
+    All-contains (λ (i : ℕ). IsLedOn (edge_at es i) (amount_at xs i) v levels) (row v) k led (listed es nodes v row inc k b touches)
 
-pub row_touches : (es : List Edge) (nodes v : ℕ) (rows : List (Vec ℕ)) → IsIncidence es nodes (length es) rows → All (λ k. Touches (edge_at es k) v) (row_at rows v)
-row_touches es nodes v rows inc k d b = inc.touching v (get_or (row_at rows v) k d) (Contains-get_or (row_at rows v) k d b)
+pub row_below : (es : List Edge) (nodes v : ℕ) (row : ℕ → List ℕ) → v < nodes → IsIncidence es nodes row → All (λ k. k < length es) (row v)
+row_below es nodes v row v_in inc k d b = inc.below v (get_or (row v) k d) v_in (Contains-get_or (row v) k d b)
 
--- what reading a row gives
-pub row_at-read : (rows : List (Vec ℕ)) (v : ℕ) (row : Vec ℕ) → v < length rows → row ≡ get_or rows v row → row_at rows v ≡ row.items
-row_at-read [] v row b h = absurd (omega arith)
-row_at-read (r ∷ rows) zero row b h = ap (λ (w : Vec ℕ). w.items) (sym h)
-row_at-read (r ∷ rows) (suc v) row b h = row_at-read rows v row (omega arith) h
+pub row_touches : (es : List Edge) (nodes v : ℕ) (row : ℕ → List ℕ) → v < nodes → IsIncidence es nodes row → All (λ k. Touches (edge_at es k) v) (row v)
+row_touches es nodes v row v_in inc k d b = inc.touching v (get_or (row v) k d) v_in (Contains-get_or (row v) k d b)

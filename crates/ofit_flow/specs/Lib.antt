@@ -3,8 +3,9 @@ pub mod Flow
 pub mod Cut
 pub mod Residual
 pub mod Incidence
-pub mod Labels
+pub mod Levels
 pub mod Search
+pub mod Walk
 pub mod Reach
 pub mod Maximum
 pub mod Laws

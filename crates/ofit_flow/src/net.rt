@@ -1,9 +1,9 @@
 //! A net.
 
-ghost use Rattle.std.specs.Prelude.{◌≡◌, ◌≢◌, ◌<◌, ◌≤◌, ◌^◌, ◌++◌, ◌∷◌, [], ℤ, List, IfOk, OnOk, OnErr, length, pos, ◌≤ℤ◌};
+ghost use Rattle.std.specs.Prelude.{◌≡◌, ◌≢◌, ◌<◌, ◌≤◌, ◌^◌, ◌++◌, ◌∷◌, [], ◌+◌, ℤ, List, All, IfOk, OnOk, OnErr, length, pos, ◌≤ℤ◌};
 ghost use Rattle.ofit_flow.specs.Cut.{IsLargestMinimumCut, IsSmallestMinimumCut, capacity};
 ghost use Rattle.ofit_flow.specs.Flow.{IsFlow, value_of};
-ghost use Rattle.ofit_flow.specs.Network.{members, others};
+ghost use Rattle.ofit_flow.specs.Network.{CanAdd, members, others};
 
 use crate::edge::{Edge, MAX_CAPACITY, MAX_EDGES};
 use crate::flowed::Flowed;
@@ -51,6 +51,24 @@ impl Net {
         })
     }
 
+    /// The net of these edges, which it takes over, numbered as they stand.
+    pub fn of_edges(alloc: Global, nodes: u32, source: u32, sink: u32, edges: Vec<Edge>) -> Net
+        requires source_in { source < nodes }
+        requires sink_in { sink < nodes }
+        requires apart { source ≢ sink }
+        requires few { length edges.items ≤ MAX_EDGES }
+        requires edges_in { All (CanAdd nodes) edges.items }
+        ensures { result ≡ record { nodes = nodes; source = source; sink = sink; edges = edges.items } }
+    {
+        Net {
+            alloc,
+            nodes,
+            source,
+            sink,
+            edges,
+        }
+    }
+
     /// Adds an edge, and answers its number.
     pub fn add_edge(&mut self, from: u32, to: u32, cap: i128) -> Result<u32, AllocError>
         requires from_in { from < self.old.nodes }
@@ -70,8 +88,9 @@ impl Net {
         Ok(number)
     }
 
-    /// A maximum flow, by shortest augmenting paths (Edmonds and Karp 1972) over adjacency lists:
-    /// at most nodes times edges searches, each in time of nodes and edges together.
+    /// A maximum flow, by level graphs (Dinic 1970): at most as many phases as nodes, each of which
+    /// builds levels from the source, in time of nodes and edges together, and then blocks them, in
+    /// time of nodes times edges.
     pub fn max_flow(&mut self, phases: &mut Phases) -> Result<Flowed, AllocError>
         requires { phases.old.count ≤ 2 ^ 62 }
         ensures flow { IfOk result (λ f. IsFlow self.old.edges self.old.source self.old.sink f.amounts) }
@@ -89,11 +108,19 @@ impl Net {
         ensures sink_told { IfOk result (λ f. length f.sink_side ≡ self.old.nodes) }
         ensures net { self.new ≡ self.old }
 
-        // Augmenting paths build no levels, so they take no phase.
-        ensures phases { phases.new ≡ phases.old }
+        // Also after want of memory.
+        ensures few_phases { phases.new.count ≤ phases.old.count + self.old.nodes }
+        ensures some_phase { OnOk result (phases.old.count < phases.new.count) }
     {
         let edges = self.edges.as_slice();
-        let flowed = maximum_flow(self.alloc, self.nodes, edges, self.source, self.sink)?;
+        let flowed = maximum_flow(
+            self.alloc,
+            self.nodes,
+            edges,
+            self.source,
+            self.sink,
+            phases,
+        )?;
         Ok(flowed)
     }
 }

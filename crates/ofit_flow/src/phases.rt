@@ -2,7 +2,7 @@
 
 ghost use Rattle.std.specs.Prelude.{◌≡◌};
 
-/// How many phases the maximum flows have taken. Augmenting paths take none.
+/// How many phases the maximum flows have taken: how often levels were built.
 #[derive(Clone, Copy, PartialEq, Eq, Debug, Default)]
 pub struct Phases {
     pub count: u64,

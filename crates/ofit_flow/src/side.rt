@@ -1,23 +1,23 @@
 //! The two sides of the extreme minimum cuts.
 
-ghost use Rattle.std.specs.Prelude.{◌≡◌, ◌<◌, IfOk, is_some, length, map};
+ghost use Rattle.std.specs.Prelude.{◌≡◌, ◌≢◌, ◌<◌, IfOk, is_some, length, map};
 ghost use Rattle.ofit_flow.specs.Flow.{IsWithin};
-ghost use Rattle.ofit_flow.specs.Incidence.{IsIncidence};
+ghost use Rattle.ofit_flow.specs.Incidence.{AreRows, IsIncidence, row_at};
 ghost use Rattle.ofit_flow.specs.Network.{members};
-ghost use Rattle.ofit_flow.specs.Reach.{IsReach};
+ghost use Rattle.ofit_flow.specs.Reach.{IsBlocked, IsReach};
 ghost use Rattle.ofit_flow.specs.Residual.{left_over};
 ghost use Rattle.ofit_flow.specs.Search.{CanSearch};
 
 use crate::edge::Edge;
-use crate::label::Label;
-use crate::search::labels_from;
+use crate::levels::{Search, search_levels};
+use crate::rows::Rows;
 use std::alloc::{AllocError, Global};
 
-/// Which nodes have a label.
-fn labelled(alloc: Global, labels: &[Option<Label>]) -> Result<Vec<bool>, AllocError>
-    ensures { IfOk result (λ side. side.items ≡ map is_some labels.now) }
+/// Which nodes have a level.
+pub(crate) fn levelled(alloc: Global, levels: &[Option<u32>]) -> Result<Vec<bool>, AllocError>
+    ensures { IfOk result (λ side. side.items ≡ map is_some levels.now) }
 {
-    labels.iter().map(|label| label.is_some()).collect(alloc)
+    levels.iter().map(|level| level.is_some()).collect(alloc)
 }
 
 /// What is left of each edge's capacity.
@@ -32,39 +32,28 @@ fn left_over(alloc: Global, edges: &[Edge], amounts: &[i128]) -> Result<Vec<i128
     Ok(left)
 }
 
-/// The nodes that the source reaches in the residual net.
-pub(crate) fn source_side(
-    alloc: Global,
-    edges: &[Edge],
-    rows: &[Vec<u32>],
-    amounts: &[i128],
-    source: u32,
-) -> Result<Vec<bool>, AllocError>
-    requires net { CanSearch edges.now amounts.now (length rows.now) }
-    requires rows { IsIncidence edges.now (length rows.now) (length edges.now) rows.now }
-    requires source { source < length rows.now }
-    ensures counted { IfOk result (λ side. length side.items ≡ length rows.now) }
-    ensures reach { IfOk result (λ side. IsReach edges.now amounts.now source (members side.items)) }
-{
-    let labels = labels_from(alloc, edges, rows, amounts, source)?;
-    labelled(alloc, &labels)
-}
-
 /// The nodes that reach the sink in the residual net: what the sink reaches where each edge
-/// carries what is left of it, since every arc then runs the other way.
+/// carries what is left of it, since every arc then runs the other way. The source isn't among
+/// them, so that the search runs to its end.
 pub(crate) fn sink_side(
     alloc: Global,
     edges: &[Edge],
-    rows: &[Vec<u32>],
+    rows: &Rows,
     amounts: &[i128],
+    search: &mut Search,
+    source: u32,
     sink: u32,
 ) -> Result<Vec<bool>, AllocError>
-    requires net { CanSearch edges.now amounts.now (length rows.now) }
-    requires rows { IsIncidence edges.now (length rows.now) (length edges.now) rows.now }
-    requires sink { sink < length rows.now }
-    ensures counted { IfOk result (λ side. length side.items ≡ length rows.now) }
+    requires net { CanSearch edges.now amounts.now (length search.old.levels.items) }
+    requires rows { AreRows rows.now (length search.old.levels.items) }
+    requires incidence { IsIncidence edges.now (length search.old.levels.items) (row_at rows.now) }
+    requires source { source < length search.old.levels.items }
+    requires sink { sink < length search.old.levels.items }
+    requires blocked { IsBlocked edges.now source sink amounts.now }
+    ensures counted { IfOk result (λ side. length side.items ≡ length search.old.levels.items) }
     ensures reach { IfOk result (λ side. IsReach edges.now (left_over edges.now amounts.now) sink (members side.items)) }
 {
     let left = left_over(alloc, edges, amounts)?;
-    source_side(alloc, edges, rows, &left, sink)
+    search_levels(edges, rows, left.as_slice(), search, sink, source)?;
+    levelled(alloc, search.levels.as_slice())
 }

@@ -5,5 +5,4 @@ pub mod Picked
 pub mod Counted
 pub mod Recurrence
 pub mod Rows
-pub mod Lines
-pub mod Records
+pub mod TextLeft

@@ -1,19 +1,24 @@
--- The level table of k items: for each l from 1 to k the count out of k! orderings.
-use Rattle.std.specs.Prelude.{ℕ, zero, suc, List, [], ◌++◌, codes, decimal}
+-- The records of the level table of k items: for each l from 1 to k the count out of k! orderings.
+use Rattle.std.specs.Prelude.{ℕ, List, [], ◌∷◌, ◌++◌, map, codes, decimal}
+use Rattle.std.specs.List.{range_with_len}
+use Rattle.ofit_records.specs.Written.{records_text}
 use Rattle.ofit_levels.specs.Factorial.{factorial}
 use Rattle.ofit_levels.specs.Level.{level}
 
-unfoldable pub header_line : ℕ → List ℕ
-header_line k = codes "ofit-levels,1," ++ decimal k ++ codes "," ++ decimal (factorial k) ++ codes "\n"
+-- the record in front, for so many orderings
+abbrev pub header_fields : ℕ → ℕ → List (List ℕ)
+header_fields k all = codes "ofit-levels" ∷ codes "1" ∷ decimal k ∷ decimal all ∷ []
 
--- the line of a level whose count is given, out of so many orderings
-unfoldable pub level_line : ℕ → ℕ → ℕ → List ℕ
-level_line l count all = codes "level," ++ decimal l ++ codes "," ++ decimal count ++ codes "," ++ decimal all ++ codes "\n"
+-- the record of a level whose count is given, out of so many orderings
+abbrev pub level_fields : ℕ → ℕ → ℕ → List (List ℕ)
+level_fields l count all = codes "level" ∷ decimal l ∷ decimal count ∷ decimal all ∷ []
 
--- the lines of the levels from 1 to l
-unfoldable pub level_lines : ℕ → ℕ → List ℕ
-level_lines k zero = []
-level_lines k (suc l) = level_lines k l ++ level_line (suc l) (level k (suc l)) (factorial k)
+abbrev pub end_fields : List (List ℕ)
+end_fields = codes "end" ∷ codes "-" ∷ codes "-" ∷ codes "-" ∷ []
+
+-- the records of the levels from 1 to k
+abbrev pub level_records : ℕ → List (List (List ℕ))
+level_records k = map (λ l. level_fields l (level k l) (factorial k)) (range_with_len 1 k)
 
 unfoldable pub level_table : ℕ → List ℕ
-level_table k = header_line k ++ level_lines k k ++ codes "end,-,-,-\n"
+level_table k = records_text (header_fields k (factorial k) ∷ (level_records k ++ end_fields ∷ []))

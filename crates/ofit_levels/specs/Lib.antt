@@ -2,4 +2,3 @@ pub mod Factorial
 pub mod Orderings
 pub mod Level
 pub mod LevelText
-pub mod TableWriter

@@ -9,6 +9,3 @@ mod text;
 
 pub use counts::levels;
 pub use text::level_text;
-
-#[cfg(test)]
-mod tests;

@@ -7,3 +7,6 @@ pub mod ProblemLaws
 pub mod LeastMinimiser
 pub mod Entries
 pub mod StrictLoss
+pub mod Heaps
+pub mod QuantileLeast
+pub mod MedianRow

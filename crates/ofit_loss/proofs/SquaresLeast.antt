@@ -75,3 +75,7 @@ replaced p s s' w q n e f g = ap (λ (z : ℤ). p *ℤ z) (sym f) ∙ e ∙ ap (
 pub balance_of : (rows : List Row) (p : ℤ) (q : ℕ) (s : ℤ) (w : ℕ) → s ≡ weighted_sum rows → w ≡ total_weight rows → s *ℤ pos q -ℤ p *ℤ pos w ≡ squares.least rows p q
 balance_of rows p q s w e f =
     ap₂ (λ (a b : ℤ). a -ℤ b) (swap_ℤ s (pos q) ∙ ap (λ (z : ℤ). pos q *ℤ z) e) (ap (λ (n : ℕ). p *ℤ pos n) f) ∙ sym (balance rows p q)
+
+-- where the balance is 0, the value is the weighted mean
+pub mean_of : (rows : List Row) (c : Fraction) → IsLeastMinimiser squares true rows c → c.num *ℤ pos (total_weight rows) ≡ weighted_sum rows *ℤ pos c.den
+mean_of rows c h = omega (arith, ints, balance rows c.num c.den, h.least, h.greatest, swap_ℤ (pos c.den) (weighted_sum rows))

@@ -3,5 +3,8 @@ pub mod Laws
 pub mod Pool
 pub mod Least
 pub mod Median
+pub mod Entry
+pub mod Quantile
 pub mod Squares
 pub mod TableLaws
+pub mod Entries

@@ -17,3 +17,12 @@ pub record CanJoin {P : Type 0} (IsPoolOf : P → List Row → Type 0) (left rig
   pub left_pooled : IsPoolOf left front
   pub right_pooled : IsPoolOf right back
   pub fittable : AreFittable (front ++ back)
+
+-- the pools are of rows that a loss takes together, of which there is at least one
+pub record CanMerge {P : Type 0} (IsPoolOf : P → List Row → Type 0) (left right : P) : Type 0 where
+  pub front : List Row
+  pub back : List Row
+  pub left_pooled : IsPoolOf left front
+  pub right_pooled : IsPoolOf right back
+  pub fittable : AreFittable (front ++ back)
+  pub some : 0 < length (front ++ back)

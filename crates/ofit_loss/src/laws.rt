@@ -1,7 +1,7 @@
-ghost use Rattle.std.specs.Prelude.{◌≡◌, ℕ, ◌+◌, List, ℤ, pos, ◌-ℤ◌, ◌*ℤ◌};
+ghost use Rattle.std.specs.Prelude.{◌≡◌, ℕ, ◌+◌, ◌<◌, ◌↔◌, true, false, List, length, ℤ, pos, ◌-ℤ◌, ◌*ℤ◌};
 ghost use Rattle.ofit_num.specs.declared.row.Row.{Row};
 ghost use Rattle.ofit_num.specs.Problem.{Problem};
-ghost use Rattle.ofit_num.specs.Fraction.{Fraction, SameValue};
+ghost use Rattle.ofit_num.specs.Fraction.{Fraction, SameValue, IsLowest};
 ghost use Rattle.ofit_num.specs.Law.{HasSupport, HasFallingSpans, HasScaling};
 ghost use Rattle.ofit_num.specs.Loss.{squares, median};
 ghost use Rattle.ofit_num.specs.Limits.{total_weight};
@@ -9,6 +9,7 @@ ghost use Rattle.ofit_loss.specs.Squares.{weighted_sum};
 ghost use Rattle.ofit_loss.specs.Median.{weight_above, weight_at, weight_below};
 ghost use Rattle.ofit_loss.specs.Rows.{AreFittable};
 ghost use Rattle.ofit_loss.specs.Laws.{HasFittableGroups};
+ghost use Rattle.ofit_loss.specs.Entries.{weighted_mean, IsLeastRowValue};
 ghost use Rattle.ofit_loss.specs.Least.{IsLeastMinimiser, IsLeastOfCheapest};
 
 use crate::loss::Loss;
@@ -52,4 +53,18 @@ pub fn least_minimiser_is_one<L: Loss>()
 pub fn least_minimisers_cost_least<L: Loss>()
     ensures { (rows : List Row) (c : Fraction) → AreFittable rows → IsLeastMinimiser L.meaning L.STRICT rows c
         → IsLeastOfCheapest L.meaning rows c }
+{}
+
+/// Under squares the least minimisers are the fractions of the weighted mean's value, of which the one
+/// in lowest terms is taken.
+pub fn squares_are_least_at_the_weighted_mean()
+    ensures { (rows : List Row) (c : Fraction) → AreFittable rows → 0 < length rows → 0 < c.den
+        → (IsLeastMinimiser squares true rows c ↔ SameValue c (weighted_mean rows)) }
+{}
+
+/// Under the median the least minimiser in lowest terms is the least value of a row such that the rows
+/// at most there weigh half of all or more.
+pub fn medians_are_least_at_a_row()
+    ensures { (rows : List Row) (c : Fraction) → IsLowest c → IsLeastMinimiser median false rows c
+        → (c.den ≡ 1) × IsLeastRowValue 1 1 rows c.num }
 {}

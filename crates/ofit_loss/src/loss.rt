@@ -38,7 +38,7 @@ pub trait Loss {
     /// The cost and the span of rows.
     ghost meaning: { Meaning };
 
-    /// The pool is the pool of these rows.
+    /// The pool is the pool of these rows. It may be that of the same rows in another order too.
     ghost IsPoolOf: { Self.Pool → List Row → Type 0 };
 
     /// The pool of the rows.

@@ -1,22 +1,24 @@
-ghost use Rattle.std.specs.Prelude.{◌≡◌, ◌≤◌, ◌<◌, ◌+◌, ◌*◌, ◌^◌, ℤ, pos, ◌*ℤ◌, ◌-ℤ◌, ◌≤ℤ◌, ◌<ℤ◌, unsigned_abs, length, false, refl};
+ghost use Rattle.std.specs.Prelude.{◌≡◌, ◌≤◌, ◌^◌, unsigned_abs, false, refl};
 ghost use Rattle.ofit_num.specs.Loss.{residual, median, absolute_least, absolute_greatest};
 ghost use Rattle.ofit_num.specs.Limits.{AreWithinLimits};
 ghost use Rattle.ofit_loss.specs.TableLaws.{median-laws};
 
 use crate::loss::Loss;
 use crate::number::{plus, scaled};
+use crate::quantile::{Factors, QuantilePool};
 use ofit_num::{Frac, Row};
 use std::alloc::{AllocError, Global};
 use std::cmp::Ordering;
 
-/// The greatest value that a row may have.
-const MOST_VALUE: i64 = 1_000_000_000;
+/// Rows count the same above and below the median.
+const EVEN: Factors = Factors { above: 1, below: 1 };
 
 /// The loss of absolute residuals. Its minimisers are the weighted medians, a closed interval whose
 /// ends are row values (Robertson, Wright and Dykstra, 1988, chapter 1); the least one is taken.
 ///
-/// A span takes time linear in the rows. The least minimiser tries each row's value against all rows,
-/// so it takes time quadratic in them.
+/// A span takes time linear in the rows. A pool of n rows takes time in n log n, and its least
+/// minimiser is read off. However n rows are joined, pool by pool, it takes time in n (log n)^2 where
+/// all weigh the same: each row is put into a pool at least twice as large.
 pub struct Median;
 
 /// The whole number as a fraction.
@@ -65,26 +67,10 @@ fn span_at(rows: &[Row], at: &Frac) -> (i128, i128)
     (least, greatest)
 }
 
-/// The least value of a row such that the rows at most there weigh half of all or more. Less than
-/// half of the weight lies below it.
-fn least_median(rows: &[Row]) -> i64
-    requires limits { AreWithinLimits rows.now }
-    requires some { 0 < length rows.now }
-    ensures range { unsigned_abs result ≤ 10 ^ 9 }
-    ensures least { median.least rows.now result 1 ≤ℤ pos 0 }
-    ensures greatest { pos 0 <ℤ median.greatest rows.now result 1 }
-{
-    let mut least = MOST_VALUE;
-    for row in rows {
-        if row.value < least && span_at(rows, &whole(row.value)).0 <= 0 {
-            least = row.value;
-        }
-    }
-    least
-}
-
 impl Loss for Median {
-    type Pool = Vec<Row>;
+    ghost use Rattle.ofit_loss.specs.Quantile.{IsQuantilePool};
+
+    type Pool = QuantilePool;
 
     const DEGREE: u32 = 1;
 
@@ -96,21 +82,18 @@ impl Loss for Median {
 
     ghost meaning = { median };
 
-    ghost IsPoolOf = { λ pool rows. pool.items ≡ rows };
+    ghost IsPoolOf = { IsQuantilePool 1 1 };
 
-    fn pool_of(alloc: Global, rows: &[Row]) -> Result<Vec<Row>, AllocError> {
-        Vec::from_slice(alloc, rows)
+    fn pool_of(alloc: Global, rows: &[Row]) -> Result<QuantilePool, AllocError> {
+        QuantilePool::of(alloc, EVEN, rows)
     }
 
-    fn join(left: Vec<Row>, right: Vec<Row>) -> Result<Vec<Row>, AllocError> {
-        let mut rows = left;
-        let mut rest = right;
-        rows.append(&mut rest)?;
-        Ok(rows)
+    fn join(left: QuantilePool, right: QuantilePool) -> Result<QuantilePool, AllocError> {
+        left.join(right, EVEN)
     }
 
-    fn least(pool: &Vec<Row>) -> Frac {
-        whole(least_median(pool))
+    fn least(pool: &QuantilePool) -> Frac {
+        whole(pool.least())
     }
 
     fn span(rows: &[Row], at: &Frac) -> (i128, i128) {

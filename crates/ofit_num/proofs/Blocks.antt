@@ -1,8 +1,8 @@
 -- blocks that absorb one another, as in the fits of chains and trees whose root is greatest
-use Rattle.std.proofs.Common.{◌≡◌, ℕ, zero, suc, ◌-◌, ◌^◌, ◌<◌, refl, sym, ap, subst, ◌∙◌, arith, cond, Bool, true, false, ◌||◌, ◌&&◌, not, ◌⊎◌, inl, inr}
+use Rattle.std.proofs.Common.{◌≡◌, ℕ, zero, suc, ◌-◌, ◌^◌, ◌<◌, refl, sym, ap, subst, ◌∙◌, arith, cond, Bool, true, false, ◌||◌, ◌&&◌, ◌⊎◌, inl, inr}
 use Rattle.std.proofs.lemmas.Int.{ints, by_lt_z}
 use Rattle.std.proofs.lemmas.Bool.{cases_order}
-use Rattle.std.specs.Prelude.{ℤ, pos, ◌+ℤ◌, ◌*ℤ◌, ◌≤ℤ◌, ◌<ℤ◌, All, slice_index_or}
+use Rattle.std.specs.Prelude.{ℤ, pos, ◌+ℤ◌, ◌*ℤ◌, ◌≤ℤ◌, ◌<ℤ◌, All}
 use Rattle.ofit_num.specs.Problem.{Problem}
 use Rattle.ofit_num.specs.Meaning.{Meaning}
 use Rattle.ofit_num.specs.Fraction.{Fraction, AtMost, Below}
@@ -14,8 +14,10 @@ use Rattle.ofit_num.specs.Block.{IsPooled, IsBlock, IsCost}
 use Rattle.ofit_num.proofs.Gap.{is_gap, gap-same, gap-mul, pos-gap}
 use Rattle.ofit_num.proofs.Order.{mul_pos, mul_strict, pow_above, zero_mul_ℤ}
 use Rattle.ofit_num.proofs.Cuts.{difference, set_sum-difference, not_both, but_not, not_but}
-use Rattle.ofit_num.proofs.Pieces.{meet, set_sum-split, and_both, both_and}
-use Rattle.ofit_num.proofs.Recursion.{set_sum-le, not_above, not_below, above_zero, sum_falls, part_fitted, part_loses}
+use Rattle.ofit_num.proofs.Pieces.{meet, set_sum-split, both_and}
+use Rattle.ofit_num.proofs.Recursion.{not_below, part_fitted, part_loses}
+use Rattle.ofit_num.proofs.Parts.{in_part, base_in, child_in, upper_part, lower_part}
+use Rattle.ofit_num.proofs.Falls.{cost_least, cost_more, rest_upper, rest_lower, rest_within, rest_out, cost_falls, least_stays, least_over_greatest}
 
 -- a set has a place, or it has none
 pub member_or_none : (a : ℕ → Bool) (n : ℕ) → ((g : ℕ) × (g < n) × (a g ≡ true)) ⊎ ((g : ℕ) → g < n → a g ≡ false)
@@ -37,23 +39,6 @@ pub set_sum-equal : (a b : ℕ → Bool) (c : ℕ → ℤ) (n : ℕ) → ((g : �
 set_sum-equal a b c zero h = refl
 set_sum-equal a b c (suc n) h = ap (λ (x : Bool). set_sum a c n +ℤ cond x (c n) (pos 0)) (h n (omega arith)) ∙ ap (λ (z : ℤ). z +ℤ cond (b n) (c n) (pos 0)) (set_sum-equal a b c n (λ g l. h g (omega arith)))
 
--- costs are at least 0, add, and keep their sign under positive factors
-cost_least : (strict : Bool) (x : ℤ) → IsCost strict x → pos 0 ≤ℤ x
-cost_least true x h = h
-cost_least false x h = omega (arith, ints)
-
-cost_more : (strict : Bool) (x y : ℤ) → IsCost strict x → x ≤ℤ y → IsCost strict y
-cost_more true x y h l = omega (arith, ints)
-cost_more false x y h l = omega (arith, ints)
-
-cost_times : (strict : Bool) (x : ℤ) (k : ℕ) → 0 < k → IsCost strict x → IsCost strict (x *ℤ pos k)
-cost_times true x k l h = omega (arith, ints, mul_pos (pos 0) x k h, zero_mul_ℤ (pos k))
-cost_times false x k l h = omega (arith, ints, mul_strict (pos 0) x k h l, zero_mul_ℤ (pos k))
-
-cost_of_times : (strict : Bool) (x : ℤ) (k : ℕ) → 0 < k → IsCost strict (x *ℤ pos k) → IsCost strict x
-cost_of_times true x k l h = not_below x k l h
-cost_of_times false x k l h = above_zero x k l h
-
 -- what is below a value is below each greater one
 pub below_trans : (a b c : Fraction) → 0 < a.den → 0 < b.den → 0 < c.den → Below a b → AtMost b c → Below a c
 below_trans a b c la lb lc h k = cancel_lt (a.num *ℤ pos c.den) (c.num *ℤ pos a.den) b.den lb
@@ -73,50 +58,13 @@ below_trans a b c la lb lc h k = cancel_lt (a.num *ℤ pos c.den) (c.num *ℤ po
       turn x i j = rw (is_gap x) (simp (pos-gap, gap-mul) (gap-same _ _ _ _ (omega arith)))
 
 module _ (m : Meaning) (s : Problem) (law : HasFallingSpans m s) where
-  -- greatest ends fall too, and stay above the least ends of greater values
-  greatest_falls : (a : ℕ → Bool) (c b : Fraction) → 0 < c.den → 0 < b.den → AtMost c b
-      → (set_sum a (greatest_at m s b) s.count *ℤ pos (c.den ^ (m.degree - 1))) ≤ℤ (set_sum a (greatest_at m s c) s.count *ℤ pos (b.den ^ (m.degree - 1)))
-  greatest_falls a c b lc lb h = set_sum-le a (greatest_at m s b) (greatest_at m s c) (c.den ^ (m.degree - 1)) (b.den ^ (m.degree - 1)) s.count each where
-    each : (g : ℕ) → g < s.count → (greatest_at m s b g *ℤ pos (c.den ^ (m.degree - 1))) ≤ℤ (greatest_at m s c g *ℤ pos (b.den ^ (m.degree - 1)))
-    each g l = by_lt_z (c.num *ℤ pos b.den) (b.num *ℤ pos c.den)
-        (λ below. omega (arith, ints, law.falls g l c b lc lb below, mul_pos (least_at m s c g) (greatest_at m s c g) (b.den ^ (m.degree - 1)) (law.ordered g l c lc)))
-        (λ k. omega (arith, ints, law.greatest g l c b lc lb (omega (arith, ints))))
-
-  least_over_greatest : (a : ℕ → Bool) (c b : Fraction) → 0 < c.den → 0 < b.den → Below c b
-      → (set_sum a (greatest_at m s b) s.count *ℤ pos (c.den ^ (m.degree - 1))) ≤ℤ (set_sum a (least_at m s c) s.count *ℤ pos (b.den ^ (m.degree - 1)))
-  least_over_greatest a c b lc lb h = set_sum-le a (greatest_at m s b) (least_at m s c) (c.den ^ (m.degree - 1)) (b.den ^ (m.degree - 1)) s.count (λ g l. law.falls g l c b lc lb h)
-
-  -- a cost at a greater value is one at a smaller value
-  cost_falls : (strict : Bool) (a : ℕ → Bool) (c b : Fraction) → 0 < c.den → 0 < b.den → AtMost c b → IsCost strict (set_sum a (greatest_at m s b) s.count) → IsCost strict (set_sum a (greatest_at m s c) s.count)
-  cost_falls strict a c b lc lb h k = cost_of_times strict _ (b.den ^ (m.degree - 1)) (pow_above b.den (m.degree - 1) lb)
-      (cost_more strict _ _ (cost_times strict _ (c.den ^ (m.degree - 1)) (pow_above c.den (m.degree - 1) lc) k) (greatest_falls a c b lc lb h))
-
-  -- a sum of least ends that is at most 0 is so at each greater value
-  least_stays : (a : ℕ → Bool) (c b : Fraction) → 0 < c.den → 0 < b.den → AtMost c b → set_sum a (least_at m s c) s.count ≤ℤ pos 0 → set_sum a (least_at m s b) s.count ≤ℤ pos 0
-  least_stays a c b lc lb h k = not_above _ (c.den ^ (m.degree - 1)) (pow_above c.den (m.degree - 1) lc)
-      (omega (arith, ints, sum_falls m s law a c b lc lb h, mul_pos _ (pos 0) (b.den ^ (m.degree - 1)) k, zero_mul_ℤ (pos (b.den ^ (m.degree - 1)))))
-
   module _ (strict : Bool) (piece : ℕ → Bool) (top : ℕ) (value limit : Fraction) (block : IsBlock m s strict piece top value limit) where
-    rest_upper : (b : ℕ → Bool) → IsLowerIn s piece b → IsUpperIn s piece (difference piece b)
-    unfolding difference
-    rest_upper b lower i d l low high k = not_but (piece e.1) (b e.1) high (go (b e.1) refl) where
-      e : ℕ × ℕ
-      e = slice_index_or s.pairs i d
-
-      go : (x : Bool) → b e.1 ≡ x → x ≡ false
-      go false f = refl
-      go true f = not_both (b e.0) (lower i d l low high f) (but_not (piece e.0) (b e.0) k).1
-
-    rest_within : (b : ℕ → Bool) → IsWithin s piece (difference piece b)
-    unfolding difference
-    rest_within b = record { each = λ g l k. (but_not (piece g) (b g) k).0 }
-
     -- a lower set with the top is the whole block
     lower_with_top : (b : ℕ → Bool) → IsWithin s piece b → IsLowerIn s piece b → b top ≡ true → (g : ℕ) → g < s.count → b g ≡ piece g
     unfolding difference
     lower_with_top b inside lower t g l = go (b g) (piece g) refl refl where
       outside : piece g ≡ true → b g ≡ false → ⊥
-      outside p n = not_both (b top) t (but_not (piece top) (b top) (block.reaches (difference piece b) (rest_within b) (rest_upper b lower) g l (not_but (piece g) (b g) p n))).1
+      outside p n = not_both (b top) t (but_not (piece top) (b top) (block.reaches (difference piece b) (rest_within s piece b) (rest_upper s piece b lower) g l (not_but (piece g) (b g) p n))).1
 
       go : (x y : Bool) → b g ≡ x → piece g ≡ y → x ≡ y
       go true true e f = refl
@@ -129,7 +77,7 @@ module _ (m : Meaning) (s : Problem) (law : HasFallingSpans m s) where
     block_costs b inside lower g l k = go (b top) refl where
       go : (x : Bool) → b top ≡ x → IsCost strict (set_sum b (greatest_at m s value) s.count)
       go true t = subst (IsCost strict) (sym (set_sum-equal b piece (greatest_at m s value) s.count (lower_with_top b inside lower t))) block.pooled_costs
-      go false t = cost_falls strict b value limit block.pooled.den block.limit_den block.within (block.costs b inside lower t g l k)
+      go false t = cost_falls m s law strict b value limit block.pooled.den block.limit_den block.within (block.costs b inside lower t g l k)
 
     pub block_lowered : (b : ℕ → Bool) → IsWithin s piece b → IsLowerIn s piece b → pos 0 ≤ℤ set_sum b (greatest_at m s value) s.count
     block_lowered b inside lower = elim (member_or_none b s.count) [
@@ -179,7 +127,7 @@ module _ (m : Meaning) (s : Problem) (law : HasFallingSpans m s) where
           pooled.smaller c upper.pooled.den h,
           parts (least_at m s c),
           upper.pooled.least,
-          least_stays base b c lower.pooled.den upper.pooled.den order lower.pooled.least,
+          least_stays m s law base b c lower.pooled.den upper.pooled.den order lower.pooled.least,
         )))
         (λ h. h)
 
@@ -195,37 +143,16 @@ module _ (m : Meaning) (s : Problem) (law : HasFallingSpans m s) where
         )))
         (λ h. h)
 
-    in_base : (a : ℕ → Bool) → IsWithin s base (meet a base)
-    in_base a = record { each = λ g l k. (and_both (a g) (base g) k).1 }
-
-    in_child : (a : ℕ → Bool) → IsWithin s child (meet a child)
-    in_child a = record { each = λ g l k. (and_both (a g) (child g) k).1 }
-
-    base_in : (g : ℕ) → g < s.count → base g ≡ true → piece g ≡ true
-    base_in g l u = cut.parts g l ∙ ap (λ (y : Bool). y || child g) u
-
-    child_in : (g : ℕ) → g < s.count → child g ≡ true → piece g ≡ true
-    child_in g l u = cut.parts g l ∙ last (base g) (child g) u where
-      last : (y z : Bool) → z ≡ true → (y || z) ≡ true
-      last true z e = refl
-      last false z e = e
-
-    upper_part : (part a : ℕ → Bool) → ((g : ℕ) → g < s.count → part g ≡ true → piece g ≡ true) → IsUpperIn s piece a → IsUpperIn s part (meet a part)
-    upper_part part a inside h i d l low high k = both_and _ _ (h i d l (inside _ (places i d l).0 low) (inside _ (places i d l).1 high) (and_both _ _ k).0) high
-
-    lower_part : (part a : ℕ → Bool) → ((g : ℕ) → g < s.count → part g ≡ true → piece g ≡ true) → IsLowerIn s piece a → IsLowerIn s part (meet a part)
-    lower_part part a inside h i d l low high k = both_and _ _ (h i d l (inside _ (places i d l).0 low) (inside _ (places i d l).1 high) (and_both _ _ k).0) low
-
     split_sum : (a : ℕ → Bool) (f : ℕ → ℤ) → IsWithin s piece a → set_sum a f s.count ≡ set_sum (meet a base) f s.count +ℤ set_sum (meet a child) f s.count
     split_sum a f inside = set_sum-split s piece base child a f cut inside s.count (omega arith)
 
     -- lowering a lower set without the top costs at the child's value
     base_costs : (a : ℕ → Bool) → IsLowerIn s piece a → a top ≡ false → (g : ℕ) → g < s.count → meet a base g ≡ true → IsCost strict (set_sum (meet a base) (greatest_at m s c) s.count)
-    base_costs a low out g l k = cost_falls strict (meet a base) c be upper.pooled.den lower.limit_den limit
-        (lower.costs (meet a base) (in_base a) (lower_part base a base_in low) (ap (λ (x : Bool). x && base top) out) g l k)
+    base_costs a low out g l k = cost_falls m s law strict (meet a base) c be upper.pooled.den lower.limit_den limit
+        (lower.costs (meet a base) (in_part s base a) (lower_part s places piece base a (base_in s.count piece base child cut.parts) low) (ap (λ (x : Bool). x && base top) out) g l k)
 
     child_costs : (a : ℕ → Bool) → IsLowerIn s piece a → (g : ℕ) → g < s.count → meet a child g ≡ true → IsCost strict (set_sum (meet a child) (greatest_at m s c) s.count)
-    child_costs a low g l k = block_costs strict child leaf c ce upper (meet a child) (in_child a) (lower_part child a child_in low) g l k
+    child_costs a low g l k = block_costs strict child leaf c ce upper (meet a child) (in_part s child a) (lower_part s places piece child a (child_in s.count piece base child cut.parts) low) g l k
 
     -- a sum of two parts, one of which costs and the other of which costs or is empty
     absorbed_costs : (a : ℕ → Bool) → IsWithin s piece a → IsLowerIn s piece a → a top ≡ false → (g : ℕ) → g < s.count → a g ≡ true → IsCost strict (set_sum a (greatest_at m s c) s.count)
@@ -248,30 +175,6 @@ module _ (m : Meaning) (s : Problem) (law : HasFallingSpans m s) where
             nowhere false true e f = not_both (meet a child g) (both_and (a g) (child g) k f) (none' g l)
             nowhere false false e f = not_both (piece g) (inside.each g l k) (cut.parts g l ∙ ap (λ (z : Bool). z || child g) e ∙ f)
 
-    -- the places of the block that an upper set leaves out
-    others_lower : (a : ℕ → Bool) → IsUpperIn s piece a → IsLowerIn s piece (difference piece a)
-    unfolding difference
-    others_lower a up i d l low high k = not_but (piece e.0) (a e.0) low (go (a e.0) refl) where
-      e : ℕ × ℕ
-      e = slice_index_or s.pairs i d
-
-      go : (x : Bool) → a e.0 ≡ x → x ≡ false
-      go false f = refl
-      go true f = not_both (a e.1) (up i d l low high f) (but_not (piece e.1) (a e.1) k).1
-
-    others_within : (a : ℕ → Bool) → IsWithin s piece (difference piece a)
-    unfolding difference
-    others_within a = record { each = λ g l k. (but_not (piece g) (a g) k).0 }
-
-    others_without_top : (a : ℕ → Bool) → a top ≡ true → difference piece a top ≡ false
-    unfolding difference
-    others_without_top a e = go (piece top) (a top) e where
-      go : (x y : Bool) → y ≡ true → (x && not y) ≡ false
-      go true true e = refl
-      go false true e = refl
-      go true false e = cc
-      go false false e = refl
-
     risen : (a : ℕ → Bool) → IsWithin s piece a → IsUpperIn s piece a → Below t c → (x : Bool) → a top ≡ x → set_sum a (least_at m s t) s.count ≤ℤ pos 0
     risen a inside up h true e =
         omega (arith, ints, others, set_sum-difference piece a (least_at m s t) s.count inside.each, pooled.least) where
@@ -281,8 +184,8 @@ module _ (m : Meaning) (s : Problem) (law : HasFallingSpans m s) where
                 (omega (
                   arith,
                   ints,
-                  least_over_greatest (difference piece a) t c pooled.den upper.pooled.den h,
-                  mul_pos (pos 0) _ (t.den ^ (m.degree - 1)) (cost_least strict _ (absorbed_costs (difference piece a) (others_within a) (others_lower a up) (others_without_top a e) k.0 k.1 k.2)),
+                  least_over_greatest m s law (difference piece a) t c pooled.den upper.pooled.den h,
+                  mul_pos (pos 0) _ (t.den ^ (m.degree - 1)) (cost_least strict _ (absorbed_costs (difference piece a) (rest_within s piece a) (rest_lower s piece a up) (rest_out piece a top e) k.0 k.1 k.2)),
                   zero_mul_ℤ (pos (t.den ^ (m.degree - 1))),
                 ))
             | inr none ↦ omega (arith, ints, set_sum-none (difference piece a) (least_at m s t) s.count none)
@@ -300,8 +203,8 @@ module _ (m : Meaning) (s : Problem) (law : HasFallingSpans m s) where
         arith,
         ints,
         split_sum a (least_at m s t) inside,
-        least_stays (meet a base) b t lower.pooled.den pooled.den at_least_base (lower.raised (meet a base) (in_base a) (upper_part base a base_in up)),
-        least_stays (meet a child) c t upper.pooled.den pooled.den h (upper.raised (meet a child) (in_child a) (upper_part child a child_in up)),
+        least_stays m s law (meet a base) b t lower.pooled.den pooled.den at_least_base (lower.raised (meet a base) (in_part s base a) (upper_part s places piece base a (base_in s.count piece base child cut.parts) up)),
+        least_stays m s law (meet a child) c t upper.pooled.den pooled.den h (upper.raised (meet a child) (in_part s child a) (upper_part s places piece child a (child_in s.count piece base child cut.parts) up)),
       )
 
       under : Below t c → set_sum a (least_at m s t) s.count ≤ℤ pos 0
@@ -310,7 +213,7 @@ module _ (m : Meaning) (s : Problem) (law : HasFallingSpans m s) where
     pub absorbed : IsBlock m s strict piece top t c
     absorbed = record {
       top_below = lower.top_below;
-      top_in = base_in top lower.top_below lower.top_in;
+      top_in = base_in s.count piece base child cut.parts top lower.top_below lower.top_in;
       reaches = reaches;
       pooled = pooled;
       pooled_costs = pooled_costs;

@@ -26,11 +26,15 @@ pub mod Pieces
 pub mod Cuts
 pub mod Recursion
 pub mod Strict
+pub mod Parts
+pub mod Falls
+pub mod Values
 pub mod Blocks
 pub mod Absolute
 pub mod Squared
 pub mod Runs
 pub mod Scaled
+mod ShortDecimals
 pub mod DecimalTexts
 pub mod Fixed
 pub mod Floor
@@ -44,4 +48,8 @@ pub mod TableSettled
 pub mod FractionOrder
 pub mod Levels
 pub mod Division
+pub mod Clipped
+pub mod ClippedValues
+pub mod ClippedTable
+pub mod SettledEqual
 pub mod Pigeonhole

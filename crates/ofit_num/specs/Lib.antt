@@ -16,6 +16,8 @@ pub mod Sets
 pub mod Settled
 pub mod Block
 pub mod Level
+pub mod Steep
+pub mod Clipped
 pub mod Sheet
 pub mod Verdict
 pub mod DecimalText

@@ -6,11 +6,13 @@ ghost use Rattle.ofit_num.specs.DecimalText.{IsSpaces, IsSign, IsPower, IsEnd, I
 mod append;
 mod digits;
 mod laws;
+mod plain;
 mod scale;
 
 pub use append::append_decimal;
 use digits::{after_spaces, are_spaces, digits_of, spelled};
 pub use laws::{decimal_texts_are_canonical, decimals_are_read_back};
+use plain::plain_of;
 use scale::{Digits, scaled};
 use thiserror::Error;
 
@@ -189,8 +191,20 @@ fn size_of(
     scaled(whole, fraction, up - common, down - common, limit)
 }
 
-/// The number of units of 10^(-places) that a decimal spells.
-fn units_of(text: &[u8], places: u32, limit: i64) -> Result<i64, NumFault>
+/// The number of this size, with or without a minus sign.
+fn signed(negative: bool, size: u64) -> i64
+    requires { size < 2 ^ 63 }
+    ensures { result ≡ with_sign negative size }
+{
+    if negative {
+        -(size as i64)
+    } else {
+        size as i64
+    }
+}
+
+/// The number of units of 10^(-places) that a decimal of any form spells.
+fn units_by_parts(text: &[u8], places: u32, limit: i64) -> Result<i64, NumFault>
     requires places { places ≤ 6 }
     requires limit { pos 0 ≤ℤ limit }
     ensures ok { IfOk result (λ z. IsUnits text.now places z × (unsigned_abs z ≤ unsigned_abs limit)) }
@@ -207,14 +221,27 @@ fn units_of(text: &[u8], places: u32, limit: i64) -> Result<i64, NumFault>
             places,
             limit.unsigned_abs(),
         ) {
-            Ok(size) => Ok(if negative {
-                -(size as i64)
-            } else {
-                size as i64
-            }),
+            Ok(size) => Ok(signed(negative, size)),
             Err(fault) => Err(fault),
         },
     }
+}
+
+/// The number of units of 10^(-places) that a decimal spells. A short plain one is read at once.
+fn units_of(text: &[u8], places: u32, limit: i64) -> Result<i64, NumFault>
+    requires places { places ≤ 6 }
+    requires limit { pos 0 ≤ℤ limit }
+    ensures ok { IfOk result (λ z. IsUnits text.now places z × (unsigned_abs z ≤ unsigned_abs limit)) }
+    ensures not_number { IsErrOf result NumFault.NotNumber → IsNumber text.now → ⊥ }
+    ensures too_fine { IsErrOf result NumFault.TooFine → IsNumber text.now × ((z : ℤ) → IsUnits text.now places z → ⊥) }
+    ensures too_large { IsErrOf result NumFault.TooLarge → (z : ℤ) × IsUnits text.now places z × (unsigned_abs limit < unsigned_abs z) }
+{
+    if let Some(plain) = plain_of(text, places) {
+        if plain.size <= limit.unsigned_abs() {
+            return Ok(signed(plain.negative, plain.size));
+        }
+    }
+    units_by_parts(text, places, limit)
 }
 
 /// The number of units of 10^(-places) that a decimal spells: spaces, a sign or none, digits with at

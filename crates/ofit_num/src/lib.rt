@@ -27,8 +27,3 @@ pub use tally::Tally;
 pub use terms::lowest;
 pub use text::{append_signed, append_whole};
 pub use whole::{WholeFault, read_signed, read_whole};
-
-#[cfg(test)]
-mod decimal_tests;
-#[cfg(test)]
-mod tests;

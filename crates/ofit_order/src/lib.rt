@@ -14,8 +14,6 @@ mod neighbours;
 mod order;
 mod pairs;
 mod search;
-#[cfg(test)]
-mod tests;
 mod walk;
 
 pub use build::check_order;

@@ -3,3 +3,5 @@ pub mod Folder
 pub mod MemFolder
 pub mod MemSink
 pub mod Sink
+pub mod StdSink
+pub mod Streams

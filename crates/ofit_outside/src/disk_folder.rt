@@ -1,10 +1,11 @@
 ghost use Rattle.std.specs.Prelude.{◌≡◌, ◌≤◌, None};
 ghost use Rattle.ofit_outside.specs.Faults.{risen};
 
+use crate::reading::{ReadFault, read_whole};
 use crate::{FetchFault, Folder};
 use std::alloc::Global;
 use std::fs;
-use std::io::{ErrorKind, Read};
+use std::io::ErrorKind;
 use std::marker::Model;
 use std::rt::Files;
 
@@ -49,26 +50,18 @@ impl<R: Files> Folder for DiskFolder<'_, R> {
 
     ghost faults = { λ count. count };
 
-    /// Any error but that nothing stands under the name is counted, also one that a second try might not meet.
+    /// Any error but that nothing stands under the name is counted; an interrupted call is no error.
     fn fetch(&mut self, alloc: Global, name: &str, limit: u64) -> Result<Vec<u8>, FetchFault> {
         let mut file = match fs::open(self.rt, name) {
             Ok(file) => file,
             Err(error) if error.kind() == ErrorKind::NotFound => return Err(FetchFault::Missing),
             Err(_) => return Err(self.failed()),
         };
-        let mut bytes = Vec::new(alloc);
-        let mut piece = [0u8; 4096];
-        loop {
-            let Ok(count) = file.read(&mut piece) else {
-                return Err(self.failed());
-            };
-            if count == 0 {
-                return Ok(bytes);
-            }
-            if count as u64 > limit - bytes.len() as u64 {
-                return Err(FetchFault::Long);
-            }
-            bytes.extend_from_slice(&piece[..count])?;
+        match read_whole(alloc, &mut file, limit) {
+            Ok(bytes) => Ok(bytes),
+            Err(ReadFault::Reader(_)) => Err(self.failed()),
+            Err(ReadFault::Long) => Err(FetchFault::Long),
+            Err(ReadFault::Memory) => Err(FetchFault::Memory),
         }
     }
 }

@@ -3,15 +3,15 @@
 //! and one over the real thing.
 #![tactic(auto)]
 
-#[cfg(test)]
-mod callers;
 mod disk_folder;
 mod folder;
 mod mem_folder;
 mod mem_sink;
+mod reading;
 mod schedule;
 mod sink;
 mod std_sink;
+mod writing;
 
 pub use disk_folder::DiskFolder;
 pub use folder::{FetchFault, Folder};

@@ -1,6 +1,7 @@
 -- The text that the writer writes for a record, and what it is read back as.
-use Rattle.std.proofs.Common.{◌≡◌, ◌≢◌, ◌<◌, ◌+◌, ◌++◌, ◌∷◌, [], ℕ, zero, suc, List, refl, sym, ap, ◌∙◌, length, length-append, append_assoc, arith}
+use Rattle.std.proofs.Common.{◌≡◌, ◌≢◌, ◌<◌, ◌+◌, ◌++◌, ◌∷◌, [], ℕ, zero, suc, List, refl, sym, ap, ◌∙◌, length, length-append, append_assoc, arith, Bool, true, Result, Ok, Err, OnOk}
 use Rattle.std.specs.Prelude.{if◌then◌else◌}
+use Rattle.std.specs.Result.{is_ok}
 use Rattle.std.specs.List.{All}
 use Rattle.std.proofs.lemmas.List.Elements.{All-head, All-tail}
 use Rattle.std.proofs.lemmas.Bool.{ne_eqb}
@@ -74,3 +75,8 @@ unfolding without_marks
 no_mark first [] h = refl
 no_mark first (b ∷ []) h = refl
 no_mark first (b ∷ c ∷ rest) h = rw (ne_eqb first 239 h) refl
+
+-- what a call says of Ok, where it answered Ok
+pub told : {T E : Type 0} {P : Type 0} (r : Result T E) → is_ok r ≡ true → OnOk r P → P
+told (Ok x) e h = h
+told (Err x) e h = cc

@@ -1,5 +1,5 @@
 -- The text of records that are written.
-use Rattle.std.specs.Prelude.{◌≡◌, ℕ, List, [], ◌∷◌, ◌++◌, true, false}
+use Rattle.std.specs.Prelude.{◌≡◌, ℕ, List, [], ◌∷◌, ◌++◌, Bool, true, false}
 use Rattle.std.specs.declared.vec.Vec.{Vec}
 use Rattle.csv.specs.declared.writer.Writer.{Writer}
 use Rattle.csv.specs.declared.writer.WriterBuilder.{WriterBuilder}
@@ -26,3 +26,8 @@ text_given w = (writer_under w).items ++ writer_pending w
 -- the writer is inside no record
 abbrev pub IsBetweenRecords : {A : Type 0} → Writer (Vec ℕ A) → Type 0
 IsBetweenRecords w = (writer_setup w ≡ writer_settings) × (fields_written w ≡ 0) × (has_written w ≡ false)
+
+-- what a writer was given that may have failed: nothing then
+abbrev pub text_unless : {A : Type 0} → Bool → Writer (Vec ℕ A) → List ℕ
+text_unless true w = []
+text_unless false w = text_given w

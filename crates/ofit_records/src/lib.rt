@@ -13,6 +13,3 @@ pub use fields::field_of;
 pub use laws::written_records_are_read_back;
 pub use reader::Records;
 pub use writer::RecordWriter;
-
-#[cfg(test)]
-mod tests;

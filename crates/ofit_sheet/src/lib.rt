@@ -28,6 +28,3 @@ pub use read::read_sheet;
 pub use sheet::Sheet;
 pub use size::Size;
 pub use write::write_sheet;
-
-#[cfg(test)]
-mod tests;

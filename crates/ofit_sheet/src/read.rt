@@ -142,6 +142,9 @@ pub fn read_sheet(alloc: Global, bytes: &[u8], study: &Study) -> Result<Sheet, S
     ensures read { SheetRead (names_of study.now) (records_of bytes.now) result }
     ensures fits { IfOk result (FitsCount (length (names_of study.now))) }
 {
-    let mut records = Records::new(alloc, bytes);
+    let mut records = match Records::new(alloc, bytes) {
+        Ok(records) => records,
+        Err(_) => return Err(SheetFault::Memory),
+    };
     read_records(alloc, study, &mut records)
 }

@@ -1,4 +1,4 @@
-ghost use Rattle.std.specs.Prelude.{◌≡◌, ◌<◌, ◌++◌, ◌∷◌, [], IfOk, Some, length, map, decimal};
+ghost use Rattle.std.specs.Prelude.{◌≡◌, ◌<◌, ◌++◌, ◌∷◌, [], IfOk, OnOk, Some, length, map, decimal};
 ghost use Rattle.std.specs.Fmt.{signed_decimal};
 ghost use Rattle.ofit_num.specs.Sheet.{FitsCount};
 ghost use Rattle.ofit_records.specs.Written.{record_text, records_text};
@@ -35,8 +35,8 @@ fn bound_name(bound: Option<i64>, buffer: &mut Buffer) -> &[u8]
 }
 
 /// Writes record 1.
-fn with_header(writer: RecordWriter, sheet: &Sheet) -> Result<RecordWriter, AllocError>
-    ensures { IfOk result (λ after. after ≡ writer ++ record_text (header_fields sheet.now)) }
+fn write_header(writer: &mut RecordWriter, sheet: &Sheet) -> Result<(), AllocError>
+    ensures { OnOk result (writer.new ≡ writer.old ++ record_text (header_fields sheet.now)) }
 {
     let settings = sheet.settings();
     let mut places = Buffer::new();
@@ -50,12 +50,12 @@ fn with_header(writer: RecordWriter, sheet: &Sheet) -> Result<RecordWriter, Allo
         loss_name(settings.loss),
         places.format(settings.places).as_bytes(),
     ];
-    writer.with_record(&fields)
+    writer.add_record(&fields)
 }
 
 /// Writes the bounds.
-fn with_bounds(writer: RecordWriter, settings: &Settings) -> Result<RecordWriter, AllocError>
-    ensures { IfOk result (λ after. after ≡ writer ++ record_text (bounds_fields settings.now)) }
+fn write_bounds(writer: &mut RecordWriter, settings: &Settings) -> Result<(), AllocError>
+    ensures { OnOk result (writer.new ≡ writer.old ++ record_text (bounds_fields settings.now)) }
 {
     let mut lo = Buffer::new();
     let mut hi = Buffer::new();
@@ -65,12 +65,12 @@ fn with_bounds(writer: RecordWriter, settings: &Settings) -> Result<RecordWriter
         bound_name(settings.hi, &mut hi),
         b"-",
     ];
-    writer.with_record(&fields)
+    writer.add_record(&fields)
 }
 
 /// Writes a size.
-fn with_size_record(writer: RecordWriter, size: Size) -> Result<RecordWriter, AllocError>
-    ensures { IfOk result (λ after. after ≡ writer ++ record_text (size_fields (size_of size))) }
+fn write_size_record(writer: &mut RecordWriter, size: Size) -> Result<(), AllocError>
+    ensures { OnOk result (writer.new ≡ writer.old ++ record_text (size_fields (size_of size))) }
 {
     let mut rows = Buffer::new();
     let mut weight = Buffer::new();
@@ -80,28 +80,28 @@ fn with_size_record(writer: RecordWriter, size: Size) -> Result<RecordWriter, Al
         weight.format(size.weight).as_bytes(),
         b"-",
     ];
-    writer.with_record(&fields)
+    writer.add_record(&fields)
 }
 
 /// Writes the size, where the sheet has one.
-fn with_size(writer: RecordWriter, sheet: &Sheet) -> Result<RecordWriter, AllocError>
-    ensures { IfOk result (λ after. after ≡ writer ++ records_text (size_records sheet.now.size)) }
+fn write_size(writer: &mut RecordWriter, sheet: &Sheet) -> Result<(), AllocError>
+    ensures { OnOk result (writer.new ≡ writer.old ++ records_text (size_records sheet.now.size)) }
 {
     match sheet.size() {
-        None => Ok(writer),
-        Some(size) => with_size_record(writer, size),
+        None => Ok(()),
+        Some(size) => write_size_record(writer, size),
     }
 }
 
 /// Writes the value of a group.
-fn with_value(
-    writer: RecordWriter,
+fn write_value(
+    writer: &mut RecordWriter,
     study: &Study,
     place: u32,
     value: Frac,
-) -> Result<RecordWriter, AllocError>
+) -> Result<(), AllocError>
     requires { place < length (names_of study.now) }
-    ensures { IfOk result (λ after. after ≡ writer ++ record_text (value_fields (names_of study.now) (entry_of (place, value)))) }
+    ensures { OnOk result (writer.new ≡ writer.old ++ record_text (value_fields (names_of study.now) (entry_of (place, value)))) }
 {
     let mut num = Buffer::new();
     let mut den = Buffer::new();
@@ -111,18 +111,18 @@ fn with_value(
         num.format(value.num()).as_bytes(),
         den.format(value.den()).as_bytes(),
     ];
-    writer.with_record(&fields)
+    writer.add_record(&fields)
 }
 
 /// Writes a flow.
-fn with_flow(
-    writer: RecordWriter,
+fn write_flow(
+    writer: &mut RecordWriter,
     study: &Study,
     flow: (u32, u32, i128),
-) -> Result<RecordWriter, AllocError>
+) -> Result<(), AllocError>
     requires low { flow.0 < length (names_of study.now) }
     requires high { flow.1 < length (names_of study.now) }
-    ensures { IfOk result (λ after. after ≡ writer ++ record_text (flow_fields (names_of study.now) (flow_of flow))) }
+    ensures { OnOk result (writer.new ≡ writer.old ++ record_text (flow_fields (names_of study.now) (flow_of flow))) }
 {
     let (low, high, amount) = flow;
     let mut size = Buffer::new();
@@ -132,40 +132,38 @@ fn with_flow(
         study.group_name(high),
         size.format(amount.unsigned_abs()).as_bytes(),
     ];
-    writer.with_record(&fields)
+    writer.add_record(&fields)
 }
 
 /// Writes the values by rising place.
-fn with_values(
-    writer: RecordWriter,
+fn write_values(
+    writer: &mut RecordWriter,
     study: &Study,
     sheet: &Sheet,
-) -> Result<RecordWriter, AllocError>
+) -> Result<(), AllocError>
     requires { FitsCount (length (names_of study.now)) sheet.now }
-    ensures { IfOk result (λ after. after ≡ writer ++ records_text (map (value_fields (names_of study.now)) sheet.now.values)) }
+    ensures { OnOk result (writer.new ≡ writer.old ++ records_text (map (value_fields (names_of study.now)) sheet.now.values)) }
 {
-    let mut writer = writer;
     for index in 0..sheet.value_count() {
         let (place, value) = sheet.value_at(index);
-        writer = with_value(writer, study, place, value)?;
+        write_value(writer, study, place, value)?;
     }
-    Ok(writer)
+    Ok(())
 }
 
 /// Writes the flows in their order.
-fn with_flows(
-    writer: RecordWriter,
+fn write_flows(
+    writer: &mut RecordWriter,
     study: &Study,
     sheet: &Sheet,
-) -> Result<RecordWriter, AllocError>
+) -> Result<(), AllocError>
     requires { FitsCount (length (names_of study.now)) sheet.now }
-    ensures { IfOk result (λ after. after ≡ writer ++ records_text (map (flow_fields (names_of study.now)) sheet.now.flows)) }
+    ensures { OnOk result (writer.new ≡ writer.old ++ records_text (map (flow_fields (names_of study.now)) sheet.now.flows)) }
 {
-    let mut writer = writer;
     for index in 0..sheet.flow_count() {
-        writer = with_flow(writer, study, sheet.flow_at(index))?;
+        write_flow(writer, study, sheet.flow_at(index))?;
     }
-    Ok(writer)
+    Ok(())
 }
 
 /// The text of a sheet for a study that names its groups: version 2 for a sheet with a size, and else
@@ -174,12 +172,13 @@ pub fn write_sheet(alloc: Global, study: &Study, sheet: &Sheet) -> Result<Vec<u8
     requires { FitsCount (length (names_of study.now)) sheet.now }
     ensures { IfOk result (λ text. text.items ≡ sheet_text (names_of study.now) sheet.now) }
 {
-    let writer = with_header(RecordWriter::new(alloc), sheet)?;
-    let writer = with_bounds(writer, sheet.settings())?;
-    let writer = with_size(writer, sheet)?;
-    let writer = with_values(writer, study, sheet)?;
-    let writer = with_flows(writer, study, sheet)?;
+    let mut writer = RecordWriter::new(alloc)?;
+    write_header(&mut writer, sheet)?;
+    write_bounds(&mut writer, sheet.settings())?;
+    write_size(&mut writer, sheet)?;
+    write_values(&mut writer, study, sheet)?;
+    write_flows(&mut writer, study, sheet)?;
     let end: [&[u8]; 4] = [b"end", b"-", b"-", b"-"];
-    let writer = writer.with_record(&end)?;
+    writer.add_record(&end)?;
     writer.into_text()
 }

@@ -6,3 +6,4 @@ pub mod PairLists
 pub mod Pairing
 pub mod Pushing
 pub mod Stating
+mod PrintedNames

@@ -22,6 +22,3 @@ pub use name::{Name, is_name};
 pub use pattern::Pattern;
 pub use settings::{LossKind, Settings};
 pub use study::Study;
-
-#[cfg(test)]
-mod tests;

@@ -1,4 +1,4 @@
-ghost use Rattle.std.specs.Prelude.{◌≡◌, ◌↔◌, ◌≤◌, ◌≢◌, IsTrue, IfOk, MatchOption, All, IsUtf8};
+ghost use Rattle.std.specs.Prelude.{◌≡◌, ◌↔◌, ◌≤◌, ◌<◌, ◌≢◌, IsTrue, IfOk, MatchOption, All, IsUtf8};
 ghost use Rattle.ofit_study.specs.Name.{IsName, IsNameByte};
 
 use std::alloc::{AllocError, Global};
@@ -36,10 +36,24 @@ fn are_name_bytes(bytes: &[u8]) -> bool
     bytes.iter().all(|byte| is_name_byte(*byte))
 }
 
+/// Whether each byte is a printed one of ASCII, as in most names.
+fn is_printed(bytes: &[u8]) -> bool
+    ensures { IsTrue result ↔ All (λ b. (32 ≤ b) × (b < 127)) bytes.now }
+{
+    bytes.iter().all(|byte| b' ' <= *byte && *byte < 0x7F)
+}
+
 fn is_text(bytes: &[u8]) -> bool
     ensures { IsTrue result ↔ IsUtf8 bytes.now }
 {
     str::from_utf8(bytes).is_ok()
+}
+
+/// Whether the bytes are UTF-8 without control bytes.
+fn is_plain(bytes: &[u8]) -> bool
+    ensures { IsTrue result ↔ (All IsNameByte bytes.now × IsUtf8 bytes.now) }
+{
+    is_printed(bytes) || (are_name_bytes(bytes) && is_text(bytes))
 }
 
 /// Whether the bytes are a name: 1 to 64 bytes of UTF-8, none below 0x20 and none 0x7F. Time linear in
@@ -47,7 +61,7 @@ fn is_text(bytes: &[u8]) -> bool
 pub fn is_name(bytes: &[u8]) -> bool
     ensures { IsTrue result ↔ IsName bytes.now }
 {
-    !bytes.is_empty() && bytes.len() <= MOST_BYTES && are_name_bytes(bytes) && is_text(bytes)
+    !bytes.is_empty() && bytes.len() <= MOST_BYTES && is_plain(bytes)
 }
 
 impl Name {

@@ -21,9 +21,10 @@ impl Model for Names {
 }
 
 impl Names {
-    ghost use Rattle.std.specs.Prelude.{◌≡◌, ◌≢◌, ◌+◌, ◌-◌, ◌<◌, ◌^◌, [], ◌∷◌, ◌++◌, length, All, IfOk, OnOk, OnErr, MatchOption, slice_get, Some};
+    ghost use Rattle.std.specs.Prelude.{◌≡◌, ◌≢◌, ◌+◌, ◌-◌, ◌<◌, ◌^◌, [], ◌∷◌, ◌++◌, length, All, IfOk, OnOk, OnErr, IsTrue, MatchOption, slice_get, Some};
     ghost use Rattle.ofit_study.specs.Kept.{name_at};
-    ghost use Rattle.ofit_study.specs.PairOrder.{pair_order};
+    ghost use Rattle.ofit_study.specs.PairOrder.{pair_order, text_order};
+    ghost use Rattle.std.specs.Ordering.{nat_cmp, ordering_then};
 
     /// No names. It takes no memory.
     pub(crate) fn new(alloc: Global) -> Names
@@ -61,6 +62,29 @@ impl Names {
         }
     }
 
+    /// Whether the name stands at the place.
+    fn is_at(&self, place: u32, name: &[u8]) -> bool
+        ensures { IsTrue result → slice_get self.now place ≡ Some name.now }
+    {
+        place < self.count() && self.at(place) == name
+    }
+
+    /// The place of a name. It is found without hashing where it is the guess or the one behind it, as in
+    /// a table whose rows stand group by group or go round the groups.
+    pub(crate) fn place_near(&self, guess: u32, name: &[u8]) -> Option<u32>
+        ensures { MatchOption result (All (λ known. known ≢ name.now) self.now)
+            (λ place. slice_get self.now place ≡ Some name.now) }
+    {
+        let next = guess.saturating_add(1);
+        if self.is_at(guess, name) {
+            return Some(guess);
+        }
+        if self.is_at(next, name) {
+            return Some(next);
+        }
+        self.place_of(name)
+    }
+
     /// Puts a new name after the others.
     pub(crate) fn add(&mut self, name: &[u8]) -> Result<(), AllocError>
         requires new { All (λ known. known ≢ name.now) self.old }
@@ -89,10 +113,19 @@ impl Names {
     pub(crate) fn compare_pairs(&self, first: (u32, u32), second: (u32, u32)) -> Ordering
         ensures { result ≡ pair_order self.now first second }
     {
-        let by_low = self.text(first.0).cmp(self.text(second.0));
+        match self.text(first.0).cmp(self.text(second.0)) {
+            Ordering::Less => Ordering::Less,
+            Ordering::Greater => Ordering::Greater,
+            Ordering::Equal => self.compare_highs(first, second),
+        }
+    }
+
+    /// The order of two pairs whose low names are equal.
+    fn compare_highs(&self, first: (u32, u32), second: (u32, u32)) -> Ordering
+        ensures { result ≡ ordering_then (text_order (name_at self.now first.1) (name_at self.now second.1)) (ordering_then (nat_cmp first.0 second.0) (nat_cmp first.1 second.1)) }
+    {
         let by_high = self.text(first.1).cmp(self.text(second.1));
-        let by_places = first.0.cmp(&second.0).then(first.1.cmp(&second.1));
-        by_low.then(by_high).then(by_places)
+        by_high.then(first.0.cmp(&second.0).then(first.1.cmp(&second.1)))
     }
 
     /// The names once more.

@@ -97,7 +97,7 @@ impl Study {
             value,
             weight,
         };
-        let added = match self.names.place_of(name) {
+        let added = match self.names.place_near(self.latest_place(), name) {
             Some(place) => self.add_to_group(place, row),
             None if self.names.count() >= MOST_GROUPS => return Err(AddFault::TooManyGroups),
             None => self.add_group(name, row),
@@ -105,6 +105,14 @@ impl Study {
         match added {
             Ok(()) => Ok(()),
             Err(_) => Err(AddFault::Memory),
+        }
+    }
+
+    /// The place of the row that was added last, 0 where there is none.
+    fn latest_place(&self) -> u32 {
+        match self.entries.last() {
+            Some(entry) => entry.place,
+            None => 0,
         }
     }
 

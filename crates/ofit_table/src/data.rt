@@ -83,7 +83,10 @@ pub fn read_data(alloc: Global, bytes: &[u8], settings: &Settings) -> Result<Stu
     requires { InLimits settings.now }
     ensures { DataRead bytes.now settings.now result }
 {
-    let mut records = Records::new(alloc, bytes);
+    let mut records = match Records::new(alloc, bytes) {
+        Ok(records) => records,
+        Err(_) => return Err(DataFault::Memory),
+    };
     let mut header = ByteRecord::new(alloc);
     match records.read_next(&mut header) {
         Ok(true) => {}

@@ -20,6 +20,3 @@ pub use laws::{
 };
 pub use pairs::read_pairs;
 pub use shape::shape_pairs;
-
-#[cfg(test)]
-mod tests;

@@ -102,7 +102,10 @@ pub fn read_pairs(alloc: Global, bytes: &[u8], study: &Study) -> Result<Study, O
     requires { length bytes.now ≤ 33554432 }
     ensures { PairsRead bytes.now study.now result }
 {
-    let mut records = Records::new(alloc, bytes);
+    let mut records = match Records::new(alloc, bytes) {
+        Ok(records) => records,
+        Err(_) => return Err(OrderFault::Memory),
+    };
     let mut header = ByteRecord::new(alloc);
     match records.read_next(&mut header) {
         Ok(true) => {}

@@ -16,6 +16,3 @@ pub use laws::{
 };
 pub use ofit_answer::{Answer, Refusal, Which, status};
 pub use top::run;
-
-#[cfg(test)]
-mod tests;

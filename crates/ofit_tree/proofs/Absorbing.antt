@@ -1,13 +1,12 @@
 -- a block that waits absorbs the first one of those that wait, which is its child
-use Rattle.std.proofs.Common.{◌≡◌, ℕ, zero, suc, ◌+◌, ◌<◌, ◌≤◌, refl, sym, ap, subst, ◌∙◌, arith, Bool, true, false, ◌||◌, List, [], ◌∷◌, ◌++◌, length, ◌⊎◌, inl, inr}
-use Rattle.std.proofs.lemmas.Bool.{cases_eq, cases_lt, or_cases, or_left, or_right, false_from_ne_true, both_ways}
-use Rattle.std.proofs.lemmas.List.{get_or_past}
+use Rattle.std.proofs.Common.{◌≡◌, ℕ, ◌<◌, refl, sym, ap, subst, ◌∙◌, arith, Bool, true, false, ◌||◌, List, ◌∷◌, ◌++◌, length, ◌⊎◌, inl, inr}
+use Rattle.std.proofs.lemmas.Bool.{cases_eq, cases_lt, or_cases, or_left, or_right, false_from_ne_true}
 use Rattle.std.proofs.lemmas.List.Elements.{All-contains, All-append, All-weaker, All-get_or, All-from_get_or, Contains-append_left, Contains-append_right}
 use Rattle.std.specs.Prelude.{All, Contains, slice_get, slice_index, Option, Some}
 use Rattle.ofit_num.specs.declared.row.Row.{Row}
 use Rattle.ofit_num.specs.Groups.{RowLists}
 use Rattle.ofit_num.specs.Meaning.{Meaning}
-use Rattle.ofit_num.specs.Fraction.{Fraction, AtMost, SameValue}
+use Rattle.ofit_num.specs.Fraction.{Fraction, SameValue}
 use Rattle.ofit_num.specs.Law.{HasFallingSpans}
 use Rattle.ofit_num.specs.Limits.{all_rows}
 use Rattle.ofit_num.specs.Problem.{no_bounds}
@@ -25,9 +24,9 @@ use Rattle.ofit_tree.specs.Tree.{IsParent, IsRootedTree, tree_pairs, tree_proble
 use Rattle.ofit_tree.specs.Level.{IsLevel, IsTreeBlock}
 use Rattle.ofit_tree.specs.Forest.{numbered, IsPoolOfPiece, IsOpenBlock, IsForest, IsFirst}
 use Rattle.ofit_tree.proofs.Slots.{contains_first, is_number, has_number, same_test}
-use Rattle.ofit_tree.proofs.Pairs.{child_below, parent_below, one_parent, depth, deeper, Hangs, top_highest, hangs_together}
+use Rattle.ofit_tree.proofs.Pairs.{child_below, parent_below, depth, deeper, Hangs, top_highest, hangs_together}
 use Rattle.ofit_tree.proofs.Pools.{pool_value, pool_costs, both_fittable, both_some, both_pools}
-use Rattle.ofit_tree.proofs.TreeBlocks.{tree_level, tree_limit, tree_den, tree_top, tree_within, tree_absorbed, in_order_same, in_order_trans}
+use Rattle.ofit_tree.proofs.TreeBlocks.{tree_limit, tree_den, tree_within, tree_absorbed, in_order_trans}
 use Rattle.ofit_tree.proofs.Closing.{same_open, open_settled, open_joined, settled_joined, first_ranked}
 
 -- the block with its groups under another name, and a limit nearer to its value

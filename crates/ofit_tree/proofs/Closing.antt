@@ -1,10 +1,10 @@
 -- entries that are outdated, blocks that settle, and slots in general
-use Rattle.std.proofs.Common.{◌≡◌, ℕ, zero, suc, ◌+◌, ◌<◌, ◌≤◌, refl, sym, ap, subst, ◌∙◌, arith, Bool, true, false, List, [], ◌∷◌, ◌++◌, length, set, ◌⊎◌, inl, inr}
+use Rattle.std.proofs.Common.{◌≡◌, ℕ, zero, suc, ◌<◌, refl, sym, ap, subst, ◌∙◌, arith, Bool, true, List, [], ◌∷◌, length, set, inl, inr}
 use Rattle.std.proofs.lemmas.Bool.{cases_eq}
 use Rattle.std.proofs.lemmas.List.{length-set}
 use Rattle.std.proofs.lemmas.List.Elements.{All-head, All-tail, All-contains}
-use Rattle.std.proofs.lemmas.Option.{slice_get_within, slice_get-get_or}
-use Rattle.std.specs.Prelude.{All, Contains, slice_get, slice_index, Option, Some}
+use Rattle.std.proofs.lemmas.Option.{slice_get_within}
+use Rattle.std.specs.Prelude.{slice_get, slice_index, Option, Some}
 use Rattle.ofit_num.specs.declared.row.Row.{Row}
 use Rattle.ofit_num.specs.Groups.{RowLists}
 use Rattle.ofit_num.specs.Meaning.{Meaning}
@@ -18,10 +18,10 @@ use Rattle.ofit_tree.specs.declared.forest.Slot.{Slot}
 use Rattle.ofit_tree.specs.declared.forest.Slot.TheVariants.{Open, Settled, Joined}
 use Rattle.ofit_tree.specs.Entry.{IsInOrder, rank_of}
 use Rattle.ofit_tree.specs.Tree.{IsParent, IsRootedTree, tree_problem}
-use Rattle.ofit_tree.specs.Level.{IsLevel, IsTreeBlock}
-use Rattle.ofit_tree.specs.Forest.{numbered, IsOpenBlock, IsForest, IsCurrent, IsOutdated, IsNoneAbove, IsFirst}
+use Rattle.ofit_tree.specs.Level.{IsLevel}
+use Rattle.ofit_tree.specs.Forest.{numbered, IsForest, IsOutdated, IsNoneAbove, IsFirst}
 use Rattle.ofit_tree.proofs.Slots.{at_set, other_set, contains_first, is_number, has_number}
-use Rattle.ofit_tree.proofs.Ranks.{rank_den, in_order_from_ranks}
+use Rattle.ofit_tree.proofs.Ranks.{in_order_from_ranks}
 use Rattle.ofit_tree.proofs.Pairs.{child_below, parent_below, one_parent}
 use Rattle.ofit_tree.proofs.TreeBlocks.{tree_level, tree_den, in_order_same}
 

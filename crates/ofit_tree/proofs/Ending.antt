@@ -1,26 +1,25 @@
 -- where all blocks are settled, their values are the fit
-use Rattle.std.proofs.Common.{◌≡◌, ℕ, zero, suc, ◌+◌, ◌*◌, ◌<◌, ◌≤◌, refl, sym, ap, subst, ◌∙◌, arith, cond, mul-pos, Bool, true, false, ◌&&◌, List, [], ◌∷◌, length, ◌⊎◌, inl, inr, ◌≢◌}
+use Rattle.std.proofs.Common.{◌≡◌, ℕ, zero, suc, ◌*◌, ◌<◌, refl, sym, ap, subst, ◌∙◌, arith, cond, mul-pos, Bool, true, false, ◌&&◌, List, [], length, inl, inr, ◌≢◌}
 use Rattle.std.proofs.lemmas.Int.{ints}
-use Rattle.std.proofs.lemmas.Bool.{cases_eq, cases_order, and_right}
+use Rattle.std.proofs.lemmas.Bool.{cases_order, and_right}
 use Rattle.std.proofs.lemmas.Option.{slice_get_within, same_Some}
-use Rattle.std.specs.Prelude.{ℤ, pos, ◌+ℤ◌, ◌-ℤ◌, ◌*ℤ◌, ◌≤ℤ◌, ◌<ℤ◌, All, slice_get, slice_index, Option, Some, nat_eq}
+use Rattle.std.specs.Prelude.{ℤ, pos, ◌-ℤ◌, ◌*ℤ◌, ◌≤ℤ◌, ◌<ℤ◌, All, slice_get, slice_index, Option, Some}
 use Rattle.ofit_num.specs.declared.row.Row.{Row}
 use Rattle.ofit_num.specs.Groups.{RowLists}
-use Rattle.ofit_num.specs.Problem.{Problem, no_bounds}
+use Rattle.ofit_num.specs.Problem.{no_bounds}
 use Rattle.ofit_num.specs.Meaning.{Meaning}
-use Rattle.ofit_num.specs.Fraction.{Fraction, AtMost, Below}
-use Rattle.ofit_num.specs.Trial.{Trial, trial_of, scale_of, value_of}
+use Rattle.ofit_num.specs.Fraction.{Fraction}
+use Rattle.ofit_num.specs.Trial.{trial_of, scale_of, value_of}
 use Rattle.ofit_num.specs.Fit.{Obeys, LeastBestValues}
 use Rattle.ofit_num.specs.Limits.{all_rows}
-use Rattle.ofit_num.specs.Law.{least_at, HasFallingSpans}
+use Rattle.ofit_num.specs.Law.{HasFallingSpans}
 use Rattle.ofit_num.specs.Sets.{set_sum, IsWithin, IsLowerIn, IsClosedUp, IsClosedDown, IsClosedUpIn, IsClosedDownIn}
 use Rattle.ofit_num.specs.Settled.{IsSettled, IsLeastSettled, IsFitted, LosesByLowering}
-use Rattle.ofit_num.proofs.Gap.{is_gap, gap-same, gap-mul, gap-sub, pos-gap}
-use Rattle.ofit_num.proofs.Sums.{int_sum, int_sum-add, int_sum-at, int_sum-same, int_sum-zero}
-use Rattle.ofit_num.proofs.Lists.{All-slice_get}
+use Rattle.ofit_num.proofs.Sums.{int_sum, int_sum-add, int_sum-at, int_sum-zero}
 use Rattle.ofit_num.proofs.Trials.{scale_above, value_of-den}
-use Rattle.ofit_num.proofs.Order.{mul_pos, mul_strict, assoc_swap, mul_pos_mul, cancel_le_ℤ, cancel_ℤ, zero_mul_ℤ}
+use Rattle.ofit_num.proofs.Order.{cancel_ℤ}
 use Rattle.ofit_num.proofs.Pieces.{meet, and_both, both_and}
+use Rattle.ofit_num.proofs.Values.{rising_values, lowered_below}
 use Rattle.ofit_num.proofs.Blocks.{member_or_none, set_sum-none}
 use Rattle.ofit_num.proofs.Recursion.{part_fitted, part_loses}
 use Rattle.ofit_num.proofs.Settled.{none_above}
@@ -30,14 +29,13 @@ use Rattle.ofit_loss.specs.Laws.{HasLossLaws, HasFittableGroups}
 use Rattle.ofit_loss.proofs.ProblemLaws.{some_degree, groups_fittable, problem_support, problem_falling, problem_scaling}
 use Rattle.ofit_tree.specs.declared.direction.Direction.{Direction}
 use Rattle.ofit_tree.specs.declared.direction.Direction.TheVariants.{RootGreatest, RootLeast}
-use Rattle.ofit_tree.specs.declared.block.Block.{Block}
 use Rattle.ofit_tree.specs.declared.forest.Slot.{Slot}
-use Rattle.ofit_tree.specs.declared.forest.Slot.TheVariants.{Open, Settled, Joined}
+use Rattle.ofit_tree.specs.declared.forest.Slot.TheVariants.{Settled, Joined}
 use Rattle.ofit_tree.specs.Entry.{IsInOrder}
 use Rattle.ofit_tree.specs.Tree.{pair_of, tree_pairs, tree_problem, IsParent, IsRootedTree}
 use Rattle.ofit_tree.specs.Level.{IsLevel}
 use Rattle.ofit_tree.specs.Forest.{numbered, IsForest, AreSettledValues}
-use Rattle.ofit_tree.proofs.Falls.{set_sum-members, cost_least}
+use Rattle.ofit_num.proofs.Falls.{set_sum-members, cost_least}
 use Rattle.ofit_tree.proofs.Pairs.{each_pair, places, child_below, parent_below}
 use Rattle.ofit_tree.proofs.Slots.{is_number, has_number}
 use Rattle.ofit_tree.proofs.Closing.{same_settled, by_slot}
@@ -80,38 +78,6 @@ some_above f (suc n) k l h p = elim (cases_order k n) [
     | inr b ↦ absurd (omega arith)
   ]
 ]
-
--- v/q and w/q are n/d and k/e
-rising_values : (v w n k : ℤ) (d e q : ℕ) → 0 < d → 0 < e → v *ℤ pos d ≡ n *ℤ pos q → w *ℤ pos e ≡ k *ℤ pos q → (n *ℤ pos e) ≤ℤ (k *ℤ pos d) → v ≤ℤ w
-rising_values v w n k d e q ld le hv hw h = cancel_le_ℤ v w (e * d) (mul-pos le ld) (omega (
-  arith,
-  ints,
-  mul_pos_mul v d e,
-  mul_pos_mul w d e,
-  assoc_swap w (pos d) (pos e),
-  ap (λ (z : ℤ). z *ℤ pos e) hv,
-  ap (λ (z : ℤ). z *ℤ pos d) hw,
-  assoc_swap n (pos q) (pos e),
-  assoc_swap k (pos q) (pos d),
-  mul_pos (n *ℤ pos e) (k *ℤ pos d) q h,
-))
-
--- v/q less k/(q·r) is below n/d, where v/q is n/d
-lowered_below : (v n : ℤ) (d q r k : ℕ) → 0 < d → 0 < k → v *ℤ pos d ≡ n *ℤ pos q → ((v *ℤ pos r -ℤ pos k) *ℤ pos d) <ℤ (n *ℤ pos (q * r))
-lowered_below v n d q r k ld lk e = omega (
-  arith,
-  ints,
-  opened v (pos k) d r,
-  ap (λ (z : ℤ). z *ℤ pos r) e,
-  spread n q r,
-  mul_strict (pos 0) (pos k) d (omega (arith, ints)) ld,
-  zero_mul_ℤ (pos d),
-) where
-  opened : (v y : ℤ) (d r : ℕ) → (v *ℤ pos r -ℤ y) *ℤ pos d ≡ (v *ℤ pos d) *ℤ pos r -ℤ y *ℤ pos d
-  opened v y d r = rw (is_gap v, is_gap y) (simp (pos-gap, gap-mul, gap-sub) (gap-same _ _ _ _ (omega arith)))
-
-  spread : (n : ℤ) (q r : ℕ) → n *ℤ pos (q * r) ≡ (n *ℤ pos q) *ℤ pos r
-  spread n q r = rw (is_gap n) (simp (pos-gap, gap-mul) (gap-same _ _ _ _ (omega arith)))
 
 module _ {P : Type 0} (d : Direction) (IsPoolOf : P → List Row → Type 0) (m : Meaning) (strict : Bool) (laws : HasLossLaws m strict) (groups : RowLists) (fit : AreFittable (all_rows groups)) (parents : List (Option ℕ)) (tree : IsRootedTree parents) (count : length parents ≡ length groups)
     (labels : List ℕ) (slots : List (Slot P)) (h : IsForest d IsPoolOf m strict groups parents labels slots []) (values : List Fraction) (settled : AreSettledValues labels slots (length groups) values) where

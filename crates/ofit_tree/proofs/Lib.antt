@@ -1,4 +1,3 @@
-pub mod Falls
 pub mod Pairs
 pub mod LowBlocks
 pub mod TreeBlocks

@@ -1,5 +1,5 @@
 -- blocks of trees whose root is least, which absorb child blocks of smaller value
-use Rattle.std.proofs.Common.{◌≡◌, ℕ, ◌<◌, refl, sym, ap, subst, ◌∙◌, arith, Bool, true, false, ◌||◌, ◌&&◌, ◌⊎◌, inl, inr}
+use Rattle.std.proofs.Common.{◌≡◌, ℕ, ◌<◌, refl, sym, ap, subst, ◌∙◌, arith, Bool, true, false, ◌||◌, ◌&&◌, inl, inr}
 use Rattle.std.proofs.lemmas.Int.{ints, by_lt_z}
 use Rattle.std.proofs.lemmas.Bool.{both_ways}
 use Rattle.std.specs.Prelude.{ℤ, pos, ◌+ℤ◌, ◌*ℤ◌, ◌≤ℤ◌, ◌<ℤ◌, All}
@@ -11,13 +11,10 @@ use Rattle.ofit_num.specs.Sets.{set_sum, IsWithin, IsUpperIn, IsLowerIn}
 use Rattle.ofit_num.specs.Block.{IsPooled, IsCost}
 use Rattle.ofit_num.proofs.Blocks.{member_or_none, set_sum-none, set_sum-equal, below_trans}
 use Rattle.ofit_num.proofs.Cuts.{difference, set_sum-difference}
-use Rattle.ofit_num.proofs.Pieces.{meet, and_both, both_and}
+use Rattle.ofit_num.proofs.Pieces.{meet, both_and}
 use Rattle.ofit_tree.specs.Level.{IsLowBlock, IsLevel}
-use Rattle.ofit_tree.proofs.Falls.{set_sum-parted, cost_least, cost_more, rest_upper, rest_lower, rest_within, rest_out, no_rest, cost_falls, least_stays, greatest_follows, least_at_most_greatest}
-
--- the less one of two values that are at most a third
-below_at_most : (a b c : Fraction) → 0 < a.den → 0 < b.den → 0 < c.den → Below a b → AtMost b c → Below a c
-below_at_most a b c la lb lc h k = below_trans a b c la lb lc h k
+use Rattle.ofit_num.proofs.Parts.{in_part, base_in, child_in, upper_part, lower_part}
+use Rattle.ofit_num.proofs.Falls.{set_sum-parted, cost_least, cost_more, rest_upper, rest_lower, rest_within, rest_out, no_rest, cost_falls, least_stays, greatest_follows, least_at_most_greatest}
 
 pub at_most_trans : (a b c : Fraction) → 0 < a.den → 0 < b.den → 0 < c.den → AtMost a b → AtMost b c → AtMost a c
 at_most_trans a b c la lb lc h k = by_lt_z (c.num *ℤ pos a.den) (a.num *ℤ pos c.den)
@@ -100,15 +97,6 @@ module _ (m : Meaning) (s : Problem) (law : HasFallingSpans m s) (strict : Bool)
     split_sum : (a : ℕ → Bool) (f : ℕ → ℤ) → IsWithin s piece a → set_sum a f s.count ≡ set_sum (meet a base) f s.count +ℤ set_sum (meet a child) f s.count
     split_sum a f inside = set_sum-parted a base child f s.count (λ g l u. sym (parts g l) ∙ inside.each g l u) apart
 
-    base_in : (g : ℕ) → g < s.count → base g ≡ true → piece g ≡ true
-    base_in g l u = parts g l ∙ ap (λ (y : Bool). y || child g) u
-
-    child_in : (g : ℕ) → g < s.count → child g ≡ true → piece g ≡ true
-    child_in g l u = parts g l ∙ last (base g) (child g) u where
-      last : (y z : Bool) → z ≡ true → (y || z) ≡ true
-      last true z e = refl
-      last false z e = e
-
     met : (part : ℕ → Bool) → ((g : ℕ) → g < s.count → part g ≡ true → piece g ≡ true) → (g : ℕ) → g < s.count → meet piece part g ≡ part g
     met part inside g l = go (piece g) (part g) refl refl where
       go : (x y : Bool) → piece g ≡ x → part g ≡ y → (x && y) ≡ y
@@ -121,8 +109,8 @@ module _ (m : Meaning) (s : Problem) (law : HasFallingSpans m s) (strict : Bool)
       arith,
       ints,
       split_sum piece f (record { each = λ g l u. u }),
-      set_sum-equal (meet piece base) base f s.count (met base base_in),
-      set_sum-equal (meet piece child) child f s.count (met child child_in),
+      set_sum-equal (meet piece base) base f s.count (met base (base_in s.count piece base child parts)),
+      set_sum-equal (meet piece child) child f s.count (met child (child_in s.count piece base child parts)),
     )
 
     -- the pooled value lies between the two
@@ -150,23 +138,14 @@ module _ (m : Meaning) (s : Problem) (law : HasFallingSpans m s) (strict : Bool)
         )))
         (λ h. h)
 
-    in_part : (part a : ℕ → Bool) → IsWithin s part (meet a part)
-    in_part part a = record { each = λ g l k. (and_both (a g) (part g) k).1 }
-
-    upper_part : (part a : ℕ → Bool) → ((g : ℕ) → g < s.count → part g ≡ true → piece g ≡ true) → IsUpperIn s piece a → IsUpperIn s part (meet a part)
-    upper_part part a inside h i d l low high k = both_and _ _ (h i d l (inside _ (places i d l).0 low) (inside _ (places i d l).1 high) (and_both _ _ k).0) high
-
-    lower_part : (part a : ℕ → Bool) → ((g : ℕ) → g < s.count → part g ≡ true → piece g ≡ true) → IsLowerIn s piece a → IsLowerIn s part (meet a part)
-    lower_part part a inside h i d l low high k = both_and _ _ (h i d l (inside _ (places i d l).0 low) (inside _ (places i d l).1 high) (and_both _ _ k).0) low
-
     -- an upper set without the top gains nothing by rising from the child's value
     risen : (a : ℕ → Bool) → IsWithin s piece a → IsUpperIn s piece a → a top ≡ false → set_sum a (least_at m s c) s.count ≤ℤ pos 0
     risen a inside up out = omega (
       arith,
       ints,
       split_sum a (least_at m s c) inside,
-      least_stays m s law (meet a base) be c lower.limit_den upper.pooled.den limit (lower.raised (meet a base) (in_part base a) (upper_part base a base_in up) (ap (λ (x : Bool). x && base top) out)),
-      low_raised child leaf c ce upper (meet a child) (in_part child a) (upper_part child a child_in up),
+      least_stays m s law (meet a base) be c lower.limit_den upper.pooled.den limit (lower.raised (meet a base) (in_part s base a) (upper_part s places piece base a (base_in s.count piece base child parts) up) (ap (λ (x : Bool). x && base top) out)),
+      low_raised child leaf c ce upper (meet a child) (in_part s child a) (upper_part s places piece child a (child_in s.count piece base child parts) up),
     )
 
     -- what a lower set leaves out
@@ -179,7 +158,7 @@ module _ (m : Meaning) (s : Problem) (law : HasFallingSpans m s) (strict : Bool)
     -- the parts of a lower set cost at each value that is at most the child's
     child_costs : (v : Fraction) → 0 < v.den → AtMost v c → (a : ℕ → Bool) → IsLowerIn s piece a → pos 0 ≤ℤ set_sum (meet a child) (greatest_at m s v) s.count
     child_costs v lv h a low = elim (member_or_none (meet a child) s.count) [
-      | inl k ↦ cost_least strict _ (cost_falls m s law strict (meet a child) v c lv upper.pooled.den h (upper.costs (meet a child) (in_part child a) (lower_part child a child_in low) k.0 k.1 k.2))
+      | inl k ↦ cost_least strict _ (cost_falls m s law strict (meet a child) v c lv upper.pooled.den h (upper.costs (meet a child) (in_part s child a) (lower_part s places piece child a (child_in s.count piece base child parts) low) k.0 k.1 k.2))
       | inr none ↦ omega (arith, ints, set_sum-none (meet a child) (greatest_at m s v) s.count none)
     ]
 
@@ -195,7 +174,7 @@ module _ (m : Meaning) (s : Problem) (law : HasFallingSpans m s) (strict : Bool)
       level : AtMost t c → IsCost strict (set_sum a (greatest_at m s t) s.count)
       level h = cost_more strict (set_sum (meet a base) (greatest_at m s t) s.count) _
           (cost_falls m s law strict (meet a base) t b pooled.den lower.pooled.den at_most_base
-          (lower.costs (meet a base) (in_part base a) (lower_part base a base_in low) top lower.top_below (both_and (a top) (base top) in_top lower.top_in)))
+          (lower.costs (meet a base) (in_part s base a) (lower_part s places piece base a (base_in s.count piece base child parts) low) top lower.top_below (both_and (a top) (base top) in_top lower.top_in)))
           (omega (arith, ints, split_sum a (greatest_at m s t) inside, child_costs t pooled.den h a low))
 
     gains : (v : Fraction) → 0 < v.den → Below v t → (a : ℕ → Bool) → IsWithin s piece a → IsLowerIn s piece a → (g : ℕ) → g < s.count → a g ≡ true → pos 0 <ℤ set_sum a (greatest_at m s v) s.count
@@ -219,13 +198,13 @@ module _ (m : Meaning) (s : Problem) (law : HasFallingSpans m s) (strict : Bool)
         ints,
         split_sum a (greatest_at m s v) inside,
         child_costs v lv h a low,
-        lower.gains v lv (below_trans v t b lv pooled.den lower.pooled.den below at_most_base) (meet a base) (in_part base a) (lower_part base a base_in low) top lower.top_below (both_and (a top) (base top) in_top lower.top_in),
+        lower.gains v lv (below_trans v t b lv pooled.den lower.pooled.den below at_most_base) (meet a base) (in_part s base a) (lower_part s places piece base a (base_in s.count piece base child parts) low) top lower.top_below (both_and (a top) (base top) in_top lower.top_in),
       )
 
     pub low_absorbed : IsLowBlock m s strict piece top t c
     low_absorbed = record {
       top_below = lower.top_below;
-      top_in = base_in top lower.top_below lower.top_in;
+      top_in = base_in s.count piece base child parts top lower.top_below lower.top_in;
       reaches = reaches;
       pooled = pooled;
       pooled_costs = pooled_costs;

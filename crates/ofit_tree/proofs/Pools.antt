@@ -1,19 +1,19 @@
 -- pools of the rows of pieces: of one group, and of two pieces together
-use Rattle.std.proofs.Common.{◌≡◌, ℕ, zero, suc, ◌+◌, ◌<◌, ◌≤◌, refl, sym, ap, subst, ◌∙◌, arith, cond, Bool, true, false, ◌||◌, List, [], ◌∷◌, ◌++◌, length, take, length-append, ◌⊎◌, inl, inr}
+use Rattle.std.proofs.Common.{◌≡◌, ℕ, zero, suc, ◌+◌, ◌<◌, ◌≤◌, refl, sym, ap, ◌∙◌, arith, cond, Bool, true, false, ◌||◌, List, [], ◌++◌, length, take, length-append, inl, inr, get_or}
 use Rattle.std.proofs.lemmas.Int.{ints}
-use Rattle.std.proofs.lemmas.Bool.{both_ways, cases_order}
+use Rattle.std.proofs.lemmas.Option.{slice_get-get_or}
+use Rattle.std.proofs.lemmas.Bool.{cases_order}
 use Rattle.std.proofs.lemmas.List.{take_all}
 use Rattle.std.proofs.lemmas.List.Sums.{sum_by-append}
 use Rattle.std.proofs.lemmas.List.Elements.{All-append}
-use Rattle.std.proofs.lemmas.Option.{slice_get_within}
 use Rattle.std.specs.Prelude.{ℤ, pos, ◌+ℤ◌, ◌≤ℤ◌, All, slice_get, Some, unwrap_or, nat_lt}
 use Rattle.ofit_num.specs.declared.row.Row.{Row}
 use Rattle.ofit_num.specs.Groups.{RowLists}
-use Rattle.ofit_num.specs.Problem.{Problem, problem_of, no_bounds}
+use Rattle.ofit_num.specs.Problem.{problem_of, no_bounds}
 use Rattle.ofit_num.specs.Meaning.{Meaning}
 use Rattle.ofit_num.specs.Fraction.{Fraction}
 use Rattle.ofit_num.specs.Law.{least_at, greatest_at}
-use Rattle.ofit_num.specs.Limits.{IsRowWithinLimits, AreWithinLimits, total_weight, all_rows}
+use Rattle.ofit_num.specs.Limits.{IsRowWithinLimits, total_weight, all_rows}
 use Rattle.ofit_num.specs.Sets.{set_sum}
 use Rattle.ofit_num.specs.Block.{IsPooled, IsCost}
 use Rattle.ofit_num.proofs.RowLists.{all_rows-take_more}
@@ -56,9 +56,7 @@ lone_sum piece k f (suc n) l u alone = elim (cases_order k n) [
   out true e b = absurd (omega (arith, alone n (omega arith) e))
 
 group_at : (gs : RowLists) (k : ℕ) → k < length gs → (rows : List Row) × (slice_get gs k ≡ Some rows)
-group_at [] k l = absurd (omega arith)
-group_at (r ∷ gs) zero l = (r, refl)
-group_at (r ∷ gs) (suc k) l = group_at gs k (omega arith)
+group_at gs k l = (get_or gs k [], slice_get-get_or gs k [] l)
 
 -- what adds over rows is over a piece at most what it is over all rows
 piece_bound : (F : List Row → ℕ) → ((xs ys : List Row) → F (xs ++ ys) ≡ F xs + F ys) → (groups : RowLists) (piece : ℕ → Bool) (n : ℕ) → n ≤ length groups

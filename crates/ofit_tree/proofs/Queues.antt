@@ -1,6 +1,6 @@
 -- the queue of a forest: in another order, and its first entry; and what is left when it is empty
-use Rattle.std.proofs.Common.{◌≡◌, ℕ, zero, suc, ◌+◌, ◌-◌, ◌<◌, ◌≤◌, refl, sym, ap, subst, ◌∙◌, arith, Bool, true, false, List, [], ◌∷◌, ◌++◌, length, length-append, inl, inr}
-use Rattle.std.proofs.lemmas.Int.{ints, by_lt_z}
+use Rattle.std.proofs.Common.{◌≡◌, ℕ, zero, suc, ◌+◌, ◌-◌, ◌<◌, refl, sym, ap, subst, ◌∙◌, arith, Bool, false, List, [], ◌∷◌, ◌++◌, length, length-append, inl, inr}
+use Rattle.std.proofs.lemmas.Int.{by_lt_z}
 use Rattle.std.proofs.lemmas.Bool.{both_ways, cases_eq}
 use Rattle.std.proofs.lemmas.List.Elements.{All-head, All-tail, All-from_recursion}
 use Rattle.std.proofs.lemmas.List.Sorted.{All-permutation, Contains-permutation}
@@ -9,18 +9,16 @@ use Rattle.std.specs.List.Sorted.{IsPermutation}
 use Rattle.std.specs.BinaryHeap.{IsUpperBound}
 use Rattle.std.specs.Ordering.{int_cmp, is_lt}
 use Rattle.std.specs.Cmp.{int_cmp_is}
-use Rattle.std.specs.declared.cmp.Ordering.{Ordering}
 use Rattle.std.specs.declared.cmp.Ordering.TheVariants.{Less}
-use Rattle.std.specs.Prelude.{ℤ, pos, ◌*ℤ◌, ◌≤ℤ◌, ◌<ℤ◌, All, Contains, slice_get, slice_index, Option, Some}
+use Rattle.std.specs.Prelude.{ℤ, pos, ◌*ℤ◌, ◌≤ℤ◌, All, slice_get, slice_index, Option, Some}
 use Rattle.ofit_num.specs.declared.row.Row.{Row}
 use Rattle.ofit_num.specs.Groups.{RowLists}
 use Rattle.ofit_num.specs.Meaning.{Meaning}
 use Rattle.ofit_num.specs.Fraction.{Fraction, AtMost}
 use Rattle.ofit_tree.specs.declared.direction.Direction.{Direction}
-use Rattle.ofit_tree.specs.declared.block.Block.{Block}
 use Rattle.ofit_tree.specs.declared.entry.Entry.{Entry}
 use Rattle.ofit_tree.specs.declared.forest.Slot.{Slot}
-use Rattle.ofit_tree.specs.declared.forest.Slot.TheVariants.{Open, Settled, Joined}
+use Rattle.ofit_tree.specs.declared.forest.Slot.TheVariants.{Settled}
 use Rattle.ofit_tree.specs.Entry.{entry_cmp, rank_of}
 use Rattle.ofit_tree.specs.Forest.{IsForest, IsFirst, AreAllSettled, AreSettledValues}
 use Rattle.ofit_tree.proofs.Closing.{by_slot}

@@ -1,7 +1,7 @@
 -- ranks and the order of values
-use Rattle.std.proofs.Common.{◌≡◌, ℕ, ◌<◌, sym, ap, ◌∙◌, arith, List, [], ◌∷◌}
+use Rattle.std.proofs.Common.{◌≡◌, ℕ, ◌<◌, arith}
 use Rattle.std.proofs.lemmas.Int.{ints, by_lt_z}
-use Rattle.std.specs.Prelude.{ℤ, pos, ◌*ℤ◌, ◌≤ℤ◌, ◌<ℤ◌, neg_ℤ}
+use Rattle.std.specs.Prelude.{ℤ, pos, ◌*ℤ◌, ◌≤ℤ◌, neg_ℤ}
 use Rattle.ofit_num.specs.Fraction.{Fraction, AtMost, SameValue}
 use Rattle.ofit_num.proofs.Gap.{is_gap, gap-same, gap-mul, gap-neg, pos-gap}
 use Rattle.ofit_tree.specs.declared.direction.Direction.{Direction}

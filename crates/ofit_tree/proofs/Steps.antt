@@ -1,6 +1,5 @@
 -- a step of the fit: what it does to the lists of numbers, blocks and entries
-use Rattle.std.proofs.Common.{◌≡◌, ℕ, zero, suc, ◌+◌, ◌<◌, ◌≤◌, refl, sym, ap, subst, ◌∙◌, arith, cond, Bool, true, false, List, [], ◌∷◌, ◌++◌, length, set, ◌⊎◌, inl, inr}
-use Rattle.std.proofs.lemmas.Bool.{cases_eq}
+use Rattle.std.proofs.Common.{◌≡◌, ℕ, zero, suc, ◌+◌, ◌<◌, ◌≤◌, refl, sym, ap, subst, ◌∙◌, arith, cond, Bool, true, List, [], ◌∷◌, ◌++◌, length, set, inl, inr}
 use Rattle.std.proofs.lemmas.List.{length-set}
 use Rattle.std.proofs.lemmas.List.Sums.{sum_by-cons}
 use Rattle.std.proofs.lemmas.List.Elements.{All-cons, All-tail, All-contains, All-weaker}
@@ -26,11 +25,12 @@ use Rattle.ofit_num.specs.Law.{HasFallingSpans}
 use Rattle.ofit_num.specs.Problem.{no_bounds}
 use Rattle.ofit_loss.proofs.ProblemLaws.{groups_fittable, problem_falling}
 use Rattle.ofit_tree.specs.Tree.{IsParent, tree_pairs, tree_problem}
-use Rattle.ofit_tree.specs.Merge.{CanMerge, AreTogether, IsRelabelled, IsRenumbered}
+use Rattle.ofit_loss.specs.Pool.{CanMerge}
+use Rattle.ofit_tree.specs.Merge.{AreTogether, IsRenumbered}
 use Rattle.ofit_tree.specs.Forest.{numbered, IsForest, IsCurrent, IsOutdated, IsNoneAbove, IsFirst, IsFittableTree, CanAbsorb, is_open}
 use Rattle.ofit_tree.proofs.Slots.{at_set, other_set, is_number, has_number}
 use Rattle.ofit_tree.proofs.Ranks.{rank_den}
-use Rattle.ofit_tree.proofs.TreeBlocks.{tree_den, tree_top}
+use Rattle.ofit_tree.proofs.TreeBlocks.{tree_top}
 use Rattle.ofit_tree.proofs.Closing.{same_open, outdated_goes, entry_below, block_settles}
 use Rattle.ofit_tree.proofs.Absorbing.{two_blocks, hc, hu, rows_fittable, rows_some, block_absorbs}
 
@@ -70,8 +70,8 @@ module _ {P : Type 0} (d : Direction) (IsPoolOf : P → List Row → Type 0) (m 
     can_merge = record {
       front = (hu d IsPoolOf m strict laws groups tree.fittable parents tree.rooted tree.one_each labels slots entry queue h child upper child_at rank first can.above.0 above up label upper_at).pool.rows;
       back = (hc d IsPoolOf m strict laws groups tree.fittable parents tree.rooted tree.one_each labels slots entry queue h child upper child_at rank first can.above.0 above up label upper_at).pool.rows;
-      upper_pooled = (hu d IsPoolOf m strict laws groups tree.fittable parents tree.rooted tree.one_each labels slots entry queue h child upper child_at rank first can.above.0 above up label upper_at).pool.pooled;
-      child_pooled = (hc d IsPoolOf m strict laws groups tree.fittable parents tree.rooted tree.one_each labels slots entry queue h child upper child_at rank first can.above.0 above up label upper_at).pool.pooled;
+      left_pooled = (hu d IsPoolOf m strict laws groups tree.fittable parents tree.rooted tree.one_each labels slots entry queue h child upper child_at rank first can.above.0 above up label upper_at).pool.pooled;
+      right_pooled = (hc d IsPoolOf m strict laws groups tree.fittable parents tree.rooted tree.one_each labels slots entry queue h child upper child_at rank first can.above.0 above up label upper_at).pool.pooled;
       fittable = rows_fittable d IsPoolOf m strict laws groups tree.fittable parents tree.rooted tree.one_each labels slots entry queue h child upper child_at rank first can.above.0 above up label upper_at;
       some = rows_some d IsPoolOf m strict laws groups tree.fittable parents tree.rooted tree.one_each labels slots entry queue h child upper child_at rank first can.above.0 above up label upper_at;
     }
@@ -102,7 +102,7 @@ module _ {P : Type 0} (d : Direction) (IsPoolOf : P → List Row → Type 0) (m 
           (queue' : List Entry) (moved : IsPermutation (record { rank = rank_is; block = number } ∷ queue) queue') (slots1 slots2 slots' : List (Slot P))
           (s1 : slots1 ≡ set slots above Joined) (s2 : slots2 ≡ set slots1 entry.block Joined) (s' : slots' ≡ set slots2 number (Open t)) where
         minimiser : IsLeastMinimiser m strict (can_merge.front ++ can_merge.back) t.value
-        minimiser = value can_merge.front can_merge.back can_merge.upper_pooled can_merge.child_pooled can_merge.fittable can_merge.some
+        minimiser = value can_merge.front can_merge.back can_merge.left_pooled can_merge.right_pooled can_merge.fittable can_merge.some
 
         new_entry : Entry
         new_entry = record { rank = rank_is; block = number }
@@ -162,11 +162,11 @@ module _ {P : Type 0} (d : Direction) (IsPoolOf : P → List Row → Type 0) (m 
         unfolding can_merge
         step_absorbs = elim renumbered [
           | inl r ↦ block_absorbs d IsPoolOf m strict laws groups tree.fittable parents tree.rooted tree.one_each labels slots entry queue h child upper child_at rank first can.above.0 above up label upper_at t top
-              (pool can_merge.front can_merge.back can_merge.upper_pooled can_merge.child_pooled) minimiser members number entry.block (inl (r.0, refl)) labels' r.1.count
+              (pool can_merge.front can_merge.back can_merge.left_pooled can_merge.right_pooled) minimiser members number entry.block (inl (r.0, refl)) labels' r.1.count
               (λ g l e. r.1.given g (given entry.block child child_at g l e) ∙ sym r.0) (λ g out. r.1.kept g (kept entry.block child child_at g out)) slots' length_is new (gone_below r.0) (λ i x y. others i (λ e. x (e ∙ r.0)) x y)
               queue' entered later (entries (All-tail (λ e. (e.block < length groups) × (0 < e.rank.den)) entry queue h.entries) minimiser.den)
           | inr r ↦ block_absorbs d IsPoolOf m strict laws groups tree.fittable parents tree.rooted tree.one_each labels slots entry queue h child upper child_at rank first can.above.0 above up label upper_at t top
-              (pool can_merge.front can_merge.back can_merge.upper_pooled can_merge.child_pooled) minimiser members number above (inr (r.0, refl)) labels' r.1.count
+              (pool can_merge.front can_merge.back can_merge.left_pooled can_merge.right_pooled) minimiser members number above (inr (r.0, refl)) labels' r.1.count
               (λ g l e. r.1.given g (given above upper upper_at g l e) ∙ sym r.0) (λ g out. r.1.kept g (kept above upper upper_at g out)) slots' length_is new (gone_above r.0) (λ i x y. others i (λ e. y (e ∙ r.0)) x y)
               queue' entered later (entries (All-tail (λ e. (e.block < length groups) × (0 < e.rank.den)) entry queue h.entries) minimiser.den)
         ]

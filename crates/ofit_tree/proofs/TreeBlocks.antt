@@ -1,14 +1,15 @@
 -- blocks of trees, whose root is greatest or least: lone groups, absorbed child blocks, and what a fit needs of them
-use Rattle.std.proofs.Common.{◌≡◌, ℕ, suc, ◌+◌, ◌<◌, ◌≤◌, refl, sym, ap, subst, ◌∙◌, arith, Bool, true, false, ◌||◌, ◌&&◌, List, length, ◌⊎◌, inl, inr}
+use Rattle.std.proofs.Common.{◌≡◌, ℕ, ◌<◌, refl, sym, ap, subst, ◌∙◌, arith, Bool, true, false, ◌||◌, ◌&&◌, List, length, ◌⊎◌, inl, inr}
 use Rattle.std.proofs.lemmas.Int.{ints}
 use Rattle.std.proofs.lemmas.Bool.{both_ways, cases_eq}
-use Rattle.std.specs.Prelude.{ℤ, pos, ◌+ℤ◌, ◌*ℤ◌, ◌≤ℤ◌, ◌<ℤ◌, All, Option}
+use Rattle.std.specs.Prelude.{ℤ, pos, ◌+ℤ◌, ◌≤ℤ◌, ◌<ℤ◌, All, Option}
 use Rattle.ofit_num.specs.Groups.{RowLists}
 use Rattle.ofit_num.specs.Problem.{Problem}
 use Rattle.ofit_num.specs.Meaning.{Meaning}
 use Rattle.ofit_num.specs.Fraction.{Fraction, AtMost, Below}
 use Rattle.ofit_num.specs.Law.{least_at, greatest_at, HasFallingSpans}
-use Rattle.ofit_num.specs.Sets.{set_sum, IsWithin, IsUpperIn, IsLowerIn, IsSplit}
+use Rattle.ofit_num.specs.Sets.{set_sum, IsWithin, IsUpperIn, IsLowerIn}
+use Rattle.ofit_num.specs.Steep.{IsSteep}
 use Rattle.ofit_num.specs.Block.{IsPooled, IsBlock, IsCost}
 use Rattle.ofit_num.proofs.Blocks.{absorbed, block_costs, member_or_none, set_sum-none, set_sum-equal, below_trans}
 use Rattle.ofit_num.proofs.Cuts.{difference}
@@ -16,9 +17,9 @@ use Rattle.ofit_num.proofs.Pieces.{meet, and_both, both_and}
 use Rattle.ofit_tree.specs.declared.direction.Direction.{Direction}
 use Rattle.ofit_tree.specs.declared.direction.Direction.TheVariants.{RootGreatest, RootLeast}
 use Rattle.ofit_tree.specs.Entry.{IsInOrder}
-use Rattle.ofit_tree.specs.Tree.{pair_of, tree_problem, IsParent, IsRootedTree}
-use Rattle.ofit_tree.specs.Level.{IsLevel, IsSteep, IsTreeBlock}
-use Rattle.ofit_tree.proofs.Falls.{set_sum-parted, rest_upper, rest_within, rest_out, no_rest, cost_falls, least_at_most_greatest}
+use Rattle.ofit_tree.specs.Tree.{tree_problem, IsParent, IsRootedTree}
+use Rattle.ofit_tree.specs.Level.{IsLevel, IsTreeBlock}
+use Rattle.ofit_num.proofs.Falls.{set_sum-parted, rest_upper, rest_within, rest_out, no_rest, cost_falls, least_at_most_greatest}
 use Rattle.ofit_tree.proofs.Pairs.{pair_at, each_pair, one_parent, places, parent_below, child_below, depth, deeper, Hangs, top_highest, climbs_to_top, hangs_together}
 use Rattle.ofit_tree.proofs.LowBlocks.{at_most_trans, low_level, low_limit, low_lone, low_absorbed}
 

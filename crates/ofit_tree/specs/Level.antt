@@ -6,6 +6,7 @@ use Rattle.ofit_num.specs.Fraction.{Fraction, AtMost, Below}
 use Rattle.ofit_num.specs.Law.{least_at, greatest_at}
 use Rattle.ofit_num.specs.Sets.{set_sum, IsWithin, IsUpperIn, IsLowerIn}
 use Rattle.ofit_num.specs.Block.{IsPooled, IsBlock, IsCost}
+use Rattle.ofit_num.specs.Steep.{IsSteep}
 use Rattle.ofit_tree.specs.declared.direction.Direction.{Direction}
 use Rattle.ofit_tree.specs.declared.direction.Direction.TheVariants.{RootGreatest, RootLeast}
 
@@ -15,10 +16,6 @@ pub record IsLevel (m : Meaning) (s : Problem) (strict : Bool) (piece : ℕ → 
   pub raised : (a : ℕ → Bool) → IsWithin s piece a → IsUpperIn s piece a → set_sum a (least_at m s value) s.count ≤ℤ pos 0
   pub costs : (a : ℕ → Bool) → IsWithin s piece a → IsLowerIn s piece a → (g : ℕ) → g < s.count → a g ≡ true → IsCost strict (set_sum a (greatest_at m s value) s.count)
   pub gains : (b : Fraction) → 0 < b.den → Below b value → (a : ℕ → Bool) → IsWithin s piece a → IsLowerIn s piece a → (g : ℕ) → g < s.count → a g ≡ true → pos 0 <ℤ set_sum a (greatest_at m s b) s.count
-
--- At each value below the limit, each lower set of the piece that leaves out the top and has a place would gain by rising.
-pub record IsSteep (m : Meaning) (s : Problem) (piece : ℕ → Bool) (top : ℕ) (limit : Fraction) : Type 0 where
-  pub gains : (b : Fraction) → 0 < b.den → Below b limit → (a : ℕ → Bool) → IsWithin s piece a → IsLowerIn s piece a → a top ≡ false → (g : ℕ) → g < s.count → a g ≡ true → pos 0 <ℤ set_sum a (least_at m s b) s.count
 
 -- A block whose top is in each of its lower sets that has a place. Its rows together have their least minimiser at value; none of its upper sets that leaves out the top gains by rising from limit.
 pub record IsLowBlock (m : Meaning) (s : Problem) (strict : Bool) (piece : ℕ → Bool) (top : ℕ) (value limit : Fraction) : Type 0 where

@@ -1,16 +1,5 @@
 -- Pools of a block and of its child block, which can be joined and have a row, and their groups together.
-use Rattle.std.specs.Prelude.{◌≡◌, ℕ, ◌<◌, ◌⊎◌, List, ◌++◌, length, Contains, slice_index}
-use Rattle.ofit_num.specs.declared.row.Row.{Row}
-use Rattle.ofit_loss.specs.Rows.{AreFittable}
-
--- the pools are of rows that a loss takes together, of which there is at least one
-pub record CanMerge {P : Type 0} (IsPoolOf : P → List Row → Type 0) (upper child : P) : Type 0 where
-  pub front : List Row
-  pub back : List Row
-  pub upper_pooled : IsPoolOf upper front
-  pub child_pooled : IsPoolOf child back
-  pub fittable : AreFittable (front ++ back)
-  pub some : 0 < length (front ++ back)
+use Rattle.std.specs.Prelude.{◌≡◌, ℕ, ◌⊎◌, List, ◌++◌, length, Contains, slice_index}
 
 -- the list has the places of the one, and then those of the other
 abbrev pub AreTogether : List ℕ → List ℕ → List ℕ → Type 0

@@ -2,7 +2,8 @@ ghost use Rattle.std.specs.Prelude.{◌≡◌, ◌<◌, [], ◌∷◌, ◌++◌,
 ghost use Rattle.ofit_num.specs.declared.row.Row.{Row};
 ghost use Rattle.ofit_loss.specs.Rows.{AreFittable};
 ghost use Rattle.ofit_loss.specs.Least.{IsLeastMinimiser};
-ghost use Rattle.ofit_tree.specs.Merge.{CanMerge, AreTogether};
+ghost use Rattle.ofit_loss.specs.Pool.{CanMerge};
+ghost use Rattle.ofit_tree.specs.Merge.{AreTogether};
 
 use ofit_loss::Loss;
 use ofit_num::{Frac, Row};

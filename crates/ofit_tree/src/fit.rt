@@ -100,7 +100,8 @@ fn values_of<P: Drop>(
 /// (where the root is least, of the least one) is pooled with its parent's block, or settled, if that
 /// one is settled or if there is none: Thompson's minimum violator algorithm (1962) for rooted trees
 /// (Robertson, Wright and Dykstra, Order Restricted Statistical Inference, 1988). With n groups it
-/// joins at most n - 1 pools, and apart from that takes time in n log n.
+/// joins at most n - 1 pools, and apart from that takes time in n log n. Under the median the joins of
+/// r rows take time in r (log r)^2, however deep the tree is.
 pub fn fit_tree<L: Loss>(
     alloc: Global,
     groups: &Groups,

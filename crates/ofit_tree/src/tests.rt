@@ -94,43 +94,6 @@ fn greatest_child_is_absorbed_first(rt: HostRuntime) -> Result<(), Fail> {
 }
 
 #[test]
-fn control_below_its_treatments(rt: HostRuntime) -> Result<(), Fail> {
-    let alloc = rt.alloc();
-    let parents = [None, Some(0), Some(0), Some(0)];
-    let values = fitted::<Squares>(alloc, &[5, 3, 9, 4], &parents, Direction::RootLeast)?;
-    assert!(rt;
-        are(&values, &[(4, 1), (4, 1), (9, 1), (4, 1)]),
-        "control in the middle"
-    );
-    let high = fitted::<Squares>(alloc, &[8, 1, 3, 4], &parents, Direction::RootLeast)?;
-    assert!(rt;
-        are(&high, &[(4, 1), (4, 1), (4, 1), (4, 1)]),
-        "control above all"
-    );
-    let low = fitted::<Squares>(alloc, &[1, 3, 2, 4], &parents, Direction::RootLeast)?;
-    assert!(rt;
-        are(&low, &[(1, 1), (3, 1), (2, 1), (4, 1)]),
-        "control below all"
-    );
-    Ok(())
-}
-
-#[test]
-fn umbrellas_rise_to_their_peak(rt: HostRuntime) -> Result<(), Fail> {
-    let alloc = rt.alloc();
-    let inside = [None, Some(0), Some(0), Some(2)];
-    let values = fitted::<Squares>(alloc, &[5, 1, 2, 4], &inside, Direction::RootGreatest)?;
-    assert!(rt;
-        are(&values, &[(5, 1), (1, 1), (3, 1), (3, 1)]),
-        "B, A, C, D with its peak at B"
-    );
-    let first = [None, Some(0), Some(1)];
-    let falling = fitted::<Squares>(alloc, &[2, 3, 1], &first, Direction::RootGreatest)?;
-    assert!(rt; are(&falling, &[(5, 2), (5, 2), (1, 1)]), "peak at an end");
-    Ok(())
-}
-
-#[test]
 fn medians_take_the_least_best_values(rt: HostRuntime) -> Result<(), Fail> {
     let alloc = rt.alloc();
     let parents = [None, Some(0), Some(0)];
@@ -144,16 +107,6 @@ fn medians_take_the_least_best_values(rt: HostRuntime) -> Result<(), Fail> {
         are(&down, &[(3, 1), (3, 1), (4, 1)]),
         "3 to 4 are best for the root"
     );
-    Ok(())
-}
-
-#[test]
-fn one_group_has_its_own_value(rt: HostRuntime) -> Result<(), Fail> {
-    let alloc = rt.alloc();
-    let alone = fitted::<Squares>(alloc, &[-7], &[None], Direction::RootGreatest)?;
-    assert!(rt; are(&alone, &[(-7, 1)]));
-    let median = fitted::<Median>(alloc, &[-7], &[None], Direction::RootLeast)?;
-    assert!(rt; are(&median, &[(-7, 1)]));
     Ok(())
 }
 

@@ -20,6 +20,3 @@ pub use key::Key;
 pub use laws::words_have_one_reading;
 pub use read::read_words;
 pub use text::Text;
-
-#[cfg(test)]
-mod tests;

@@ -66,12 +66,9 @@ fn with_digit(number: u64, digit: u8, limit: u64) -> Option<u64>
     requires { IsDigit digit }
     ensures { MatchOption result (limit < number * 10 + (digit - 48)) (λ n. (n ≡ number * 10 + (digit - 48)) × (n ≤ limit)) }
 {
-    let more = u128::from(number) * 10 + u128::from(digit - b'0');
-    if more <= u128::from(limit) {
-        Some(more as u64)
-    } else {
-        None
-    }
+    let tens = number.checked_mul(10)?;
+    let more = tens.checked_add(u64::from(digit - b'0'))?;
+    if more <= limit { Some(more) } else { None }
 }
 
 /// The number that the digits spell after those of `number`, where it doesn't pass the limit.

@@ -1,33 +1,18 @@
-use Rattle.std.proofs.Common.{arith, List, length, ◌++◌, map, take, replicate, subst, sym, ap, ◌∙◌}
-use Rattle.ofit_num.specs.Fraction.{Fraction}
-use Rattle.ofit_num.specs.Trial.{trial_of}
-use Rattle.ofit_num.specs.Fit.{LeastBestValues}
-use Rattle.ofit_num.specs.Settled.{IsSettled, IsLeastSettled}
-use Rattle.ofit_chain.specs.Chain.{chain_problem}
-use Rattle.ofit_chain.specs.Stretch.{values_of}
-use Rattle.ofit_chain.specs.Covers.{stretch_of}
-use Rattle.ofit_chain.proofs.Cover.{values_of-more, whole_values, covers_least_best, covers_settled, covers_least_settled}
+use Rattle.std.proofs.Common.{◌<◌, length, take, subst, sym}
+use Rattle.ofit_num.specs.Groups.{RowLists}
+use Rattle.ofit_num.proofs.Lists.{All-slice_get}
+use Rattle.ofit_chain.specs.Stacked.{IsStack}
+use Rattle.ofit_chain.proofs.Stacks.{take_next, next_fittable}
 use Rattle.ofit_chain.proofs.fit.fit_chain.Goals as goal
 
-pub loop-block-preserved : goal.loop-block-preserved
-loop-block-preserved g c =
-    c.loop.invariant ∙ ap (λ n. values_of (map stretch_of (take c.loop-block.block-index c.deref-block-items.result.now)) ++ replicate n c.block-item.result.value) (omega arith)
-    ∙ sym (values_of-more c.deref-block-items.result.now c.loop-block.block-index c.block-item.result (omega arith) c.block-item.is)
+pub push-requires : goal.push-requires
+push-requires g c = record {
+  groups = take c.loop-place.place c.args.groups.now;
+  stack = c.loop-place.invariant;
+  some = All-slice_get (λ rows. 0 < length rows) c.args.groups.now c.loop-place.place _ c.requires.filled c.rows.ensures;
+  fittable = next_fittable c.args.groups.now c.loop-place.place c.rows.result.now c.rows.ensures c.requires.fittable;
+}
 
-pub returns-clause-count : goal.returns-clause-count
-returns-clause-count g c = c.loop-block.values.ok.0 ∙ ap (λ (vs : List Fraction). length vs) (sym (whole_values c.in_ok-stack.stack.items c.deref-block-items.result.now c.loop-block.values.items c.loop-block.block-index c.loop-block.invariant (omega arith) c.deref-block-items.ensures.value)) ∙ (covers_least_best g.L.Loss.IsPoolOf g.L.Loss.meaning g.L.Loss.STRICT g.met.L.Loss.laws c.args.groups.now c.requires.fittable c.in_ok-stack.stack.items c.in_ok-stack.ensures).count
-
-pub returns-clause-least_best : goal.returns-clause-least_best
-returns-clause-least_best g c = subst (λ (vs : List Fraction). LeastBestValues g.L.Loss.meaning (chain_problem c.args.groups.now) vs)
-    (whole_values c.in_ok-stack.stack.items c.deref-block-items.result.now c.loop-block.values.items c.loop-block.block-index c.loop-block.invariant (omega arith) c.deref-block-items.ensures.value)
-    (covers_least_best g.L.Loss.IsPoolOf g.L.Loss.meaning g.L.Loss.STRICT g.met.L.Loss.laws c.args.groups.now c.requires.fittable c.in_ok-stack.stack.items c.in_ok-stack.ensures)
-
-pub returns-clause-settled : goal.returns-clause-settled
-returns-clause-settled g c = subst (λ (vs : List Fraction). IsSettled g.L.Loss.meaning (chain_problem c.args.groups.now) (trial_of vs))
-    (whole_values c.in_ok-stack.stack.items c.deref-block-items.result.now c.loop-block.values.items c.loop-block.block-index c.loop-block.invariant (omega arith) c.deref-block-items.ensures.value)
-    (covers_settled g.L.Loss.IsPoolOf g.L.Loss.meaning g.L.Loss.STRICT g.met.L.Loss.laws c.args.groups.now c.requires.fittable c.in_ok-stack.stack.items c.in_ok-stack.ensures)
-
-pub returns-clause-least_settled : goal.returns-clause-least_settled
-returns-clause-least_settled g c = λ lax. subst (λ (vs : List Fraction). IsLeastSettled g.L.Loss.meaning (chain_problem c.args.groups.now) (trial_of vs))
-    (whole_values c.in_ok-stack.stack.items c.deref-block-items.result.now c.loop-block.values.items c.loop-block.block-index c.loop-block.invariant (omega arith) c.deref-block-items.ensures.value)
-    (covers_least_settled g.L.Loss.IsPoolOf g.L.Loss.meaning g.L.Loss.STRICT g.met.L.Loss.laws c.args.groups.now c.requires.fittable c.in_ok-stack.stack.items c.in_ok-stack.ensures lax)
+pub loop-place-preserved : goal.loop-place-preserved
+loop-place-preserved g c = subst (λ (gs : RowLists). IsStack g.L.Loss.IsPoolOf g.L.Loss.meaning g.L.Loss.STRICT gs c.push.new.self.blocks.items) (sym (take_next c.args.groups.now c.loop-place.place c.rows.result.now c.rows.ensures))
+    (c.in_ok-push.ensures.ok (take c.loop-place.place c.args.groups.now) c.loop-place.invariant (next_fittable c.args.groups.now c.loop-place.place c.rows.result.now c.rows.ensures c.requires.fittable))

@@ -1,4 +1,4 @@
-use Rattle.std.proofs.Common.{◌≡◌, ◌≤◌, ◌<◌, ◌+◌, ◌++◌, length, arith}
+use Rattle.std.proofs.Common.{◌<◌, length, arith}
 use Rattle.ofit_chain.proofs.SmallRows.{grouped_more}
 use Rattle.ofit_chain.proofs.search_tests.grouped.Goals as goal
 

@@ -20,13 +20,13 @@ totals_of-totals-requires c = omega (arith, ap total_size c.as_slice.ensures.val
 pub solve-requires-clause-few : goal.solve-requires-clause-few
 solve-requires-clause-few c =
     let n = length c.args.spans.now in
-    let es : c.as_slice-3.result.now ≡ balance_edges (ends_after (length c.args.spans.now)) (length c.args.spans.now) c.args.pairs.now c.args.spans.now c.as_slice-2.result.now = c.as_slice-3.ensures.value ∙ c.in_ok-edges.ensures in
+    let es : c.in_ok-edges.edges.items ≡ balance_edges (ends_after (length c.args.spans.now)) (length c.args.spans.now) c.args.pairs.now c.args.spans.now c.as_slice-2.result.now = c.in_ok-edges.ensures in
     omega (arith, ap (length {A = Edge}) es, balance-long (ends_after n) n c.args.pairs.now c.args.spans.now c.as_slice-2.result.now)
 
 pub solve-requires-clause-edges_in : goal.solve-requires-clause-edges_in
 solve-requires-clause-edges_in c =
     let n = length c.args.spans.now in
-    let es : c.as_slice-3.result.now ≡ balance_edges (ends_after (length c.args.spans.now)) (length c.args.spans.now) c.args.pairs.now c.args.spans.now c.as_slice-2.result.now = c.as_slice-3.ensures.value ∙ c.in_ok-edges.ensures in
+    let es : c.in_ok-edges.edges.items ≡ balance_edges (ends_after (length c.args.spans.now)) (length c.args.spans.now) c.args.pairs.now c.args.spans.now c.as_slice-2.result.now = c.in_ok-edges.ensures in
     let bases : AreBases c.args.spans.now c.as_slice-2.result.now = subst (AreBases c.args.spans.now) (sym c.as_slice-2.ensures.value) c.in_ok-bases.ensures in
     subst (All (CanAdd (n + 3))) (sym es)
     (balance-can (n + 3) (ends_after n) n c.args.pairs.now c.args.spans.now c.as_slice-2.result.now (ends_in n) (omega arith) (apart_after n) c.requires.pairs_in bases c.requires.small)
@@ -57,7 +57,7 @@ returns-then-value-totals c =
     sym c.value.ensures ∙ same_from_bits c.value.result (turnover bases n) value_fits (turnover-fits spans bases c.in_ok-bases.ensures c.requires.small) (test ∙ ap (of_z w128) sum) in
     subst (AreBalanced pairs spans) (sym c.in_ok-amounts.ensures) (settled_flows pairs spans bases c.requires.pairs_in c.in_ok-bases.ensures c.requires.small c.in_ok-flowed.flowed
     (subst (λ (es : List Edge). IsMaximumFlow es (n + 3) (n + 1) (n + 2) c.in_ok-flowed.flowed)
-    (c.as_slice-3.ensures.value ∙ c.in_ok-edges.ensures ∙ ap (balance_edges (ends_after n) n pairs spans) c.as_slice-2.ensures.value) c.in_ok-flowed.ensures) full)
+    (c.in_ok-edges.ensures ∙ ap (balance_edges (ends_after n) n pairs spans) c.as_slice-2.ensures.value) c.in_ok-flowed.ensures) full)
 
 pub returns-then-source_side : goal.returns-then-source_side
 returns-then-source_side c =
@@ -74,7 +74,7 @@ returns-then-source_side c =
       c.in_ok-outside.ensures.listed,
       settled_below pairs spans bases c.requires.pairs_in c.in_ok-bases.ensures c.requires.small c.in_ok-flowed.flowed
           (subst (λ (es : List Edge). IsMaximumFlow es (n + 3) (n + 1) (n + 2) c.in_ok-flowed.flowed)
-          (c.as_slice-3.ensures.value ∙ c.in_ok-edges.ensures ∙ ap (balance_edges (ends_after n) n pairs spans) c.as_slice-2.ensures.value) c.in_ok-flowed.ensures)
+          (c.in_ok-edges.ensures ∙ ap (balance_edges (ends_after n) n pairs spans) c.as_slice-2.ensures.value) c.in_ok-flowed.ensures)
           less (sym c.source_side.ensures ∙ c.if-source_side.true) c.in_ok-outside.outside c.in_ok-outside.ensures.same,
     )
 
@@ -93,6 +93,6 @@ returns c =
       c.in_ok-inside.ensures.listed,
       settled_above pairs spans bases c.requires.pairs_in c.in_ok-bases.ensures c.requires.small c.in_ok-flowed.flowed
           (subst (λ (es : List Edge). IsMaximumFlow es (n + 3) (n + 1) (n + 2) c.in_ok-flowed.flowed)
-          (c.as_slice-3.ensures.value ∙ c.in_ok-edges.ensures ∙ ap (balance_edges (ends_after n) n pairs spans) c.as_slice-2.ensures.value) c.in_ok-flowed.ensures)
+          (c.in_ok-edges.ensures ∙ ap (balance_edges (ends_after n) n pairs spans) c.as_slice-2.ensures.value) c.in_ok-flowed.ensures)
           less (sym c.source_side.ensures ∙ c.if-source_side.false) c.in_ok-inside.inside c.in_ok-inside.ensures.same,
     )

@@ -1,9 +1,5 @@
-use Rattle.ofit_flow.specs.Labels.{label_at}
-use Rattle.ofit_flow.proofs.Augmenting.{IsBackWay, level_of}
+use Rattle.ofit_flow.proofs.Augmenting.{IsSent}
 use Rattle.ofit_flow.proofs.augment.augment.Given as goal
 
-abbrev pub invariant-loop-node : goal.invariant-loop-node
-invariant-loop-node l = IsBackWay l.edges l.initial.amounts l.labels l.fn.sink l.by l.node l.amounts
-
-abbrev pub decreases-loop-node : goal.decreases-loop-node
-decreases-loop-node l = level_of (label_at l.labels l.node)
+abbrev pub invariant-loop-step : goal.invariant-loop-step
+invariant-loop-step l = IsSent l.edges l.initial.amounts.items l.path l.by l.step-index l.amounts.items

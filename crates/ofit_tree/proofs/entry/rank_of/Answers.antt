@@ -7,7 +7,6 @@ use Rattle.ofit_num.specs.Reduced.{Reduces}
 use Rattle.ofit_num.proofs.Coprime.{same_lowest}
 use Rattle.ofit_tree.specs.Entry.{rank_of}
 use Rattle.ofit_tree.specs.declared.direction.Direction.{Direction}
-use Rattle.ofit_tree.specs.declared.direction.Direction.TheVariants.{RootLeast}
 use Rattle.ofit_tree.proofs.entry.rank_of.Goals as goal
 
 same_size : (z : ℤ) → unsigned_abs z ≡ unsigned_abs (neg_ℤ z)

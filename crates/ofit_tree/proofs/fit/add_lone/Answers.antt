@@ -1,13 +1,9 @@
-use Rattle.std.proofs.Common.{◌≡◌, ℕ, ◌+◌, ◌<◌, refl, sym, ap, subst, ◌∙◌, List, [], ◌∷◌, ◌++◌, length}
+use Rattle.std.proofs.Common.{◌<◌, subst, ◌∷◌, length}
 use Rattle.std.specs.List.Sorted.{IsPermutation}
 use Rattle.std.specs.BinaryHeap.{heap_items}
 use Rattle.ofit_num.specs.Fraction.{Fraction}
 use Rattle.ofit_num.proofs.Lists.{All-slice_get}
 use Rattle.ofit_loss.proofs.ProblemLaws.{group_fittable}
-use Rattle.ofit_tree.specs.declared.entry.Entry.{Entry}
-use Rattle.ofit_tree.specs.declared.forest.Slot.{Slot}
-use Rattle.ofit_tree.specs.declared.forest.Slot.TheVariants.{Open}
-use Rattle.ofit_tree.specs.Forest.{IsStart}
 use Rattle.ofit_tree.proofs.Ranks.{rank_den}
 use Rattle.ofit_tree.proofs.Starting.{start_more}
 use Rattle.ofit_tree.proofs.fit.add_lone.Goals as goal

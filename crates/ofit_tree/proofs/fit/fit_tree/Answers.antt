@@ -1,4 +1,4 @@
-use Rattle.std.proofs.Common.{◌≡◌, ℕ, ◌<◌, ◌≤◌, refl, sym, ap, subst, ◌∙◌, arith, List, length}
+use Rattle.std.proofs.Common.{◌≡◌, ℕ, sym, subst, List, length}
 use Rattle.ofit_num.specs.Fraction.{Fraction}
 use Rattle.ofit_tree.specs.declared.forest.Slot.{Slot}
 use Rattle.ofit_tree.specs.Forest.{AreAllSettled, AreSettledValues}

@@ -1,7 +1,7 @@
-use Rattle.std.proofs.Common.{◌≡◌, ℕ, ◌<◌, ◌≤◌, subst, arith, length}
+use Rattle.std.proofs.Common.{ℕ, subst, arith}
 use Rattle.std.specs.BinaryHeap.{heap_items}
 use Rattle.ofit_tree.specs.Forest.{IsStart}
-use Rattle.ofit_tree.proofs.Starting.{start_forest, start_none}
+use Rattle.ofit_tree.proofs.Starting.{start_forest}
 use Rattle.ofit_tree.proofs.fit.lone_blocks.Goals as goal
 
 pub returns-clause-forest : goal.returns-clause-forest

@@ -1,4 +1,4 @@
-use Rattle.std.proofs.Common.{◌≡◌, ℕ, ◌∷◌, length}
+use Rattle.std.proofs.Common.{length}
 use Rattle.std.specs.BinaryHeap.{heap_items}
 use Rattle.ofit_tree.proofs.Queues.{forest_permuted, first_of_heap}
 use Rattle.ofit_tree.proofs.fit.settled_blocks.Goals as goal

@@ -1,11 +1,9 @@
-use Rattle.std.proofs.Common.{◌≡◌, ℕ, ◌+◌, ◌<◌, ◌≤◌, refl, sym, ap, subst, ◌∙◌, arith, List, [], length, get_or}
+use Rattle.std.proofs.Common.{◌≡◌, ℕ, ◌<◌, refl, sym, ap, subst, ◌∙◌, arith, List, length, get_or}
 use Rattle.std.proofs.lemmas.Option.{slice_get_read}
 use Rattle.std.proofs.lemmas.List.Elements.{All-get_or}
 use Rattle.std.specs.Prelude.{All, slice_get, slice_index, Some}
-use Rattle.ofit_num.specs.Fraction.{Fraction}
 use Rattle.ofit_tree.specs.declared.forest.Slot.{Slot}
-use Rattle.ofit_tree.specs.declared.forest.Slot.TheVariants.{Open, Settled, Joined}
-use Rattle.ofit_tree.specs.Forest.{AreAllSettled, AreSettledValues}
+use Rattle.ofit_tree.specs.Forest.{AreSettledValues}
 use Rattle.ofit_tree.proofs.Closing.{open_settled, settled_joined}
 use Rattle.ofit_tree.proofs.Queues.{values_more}
 use Rattle.ofit_tree.proofs.fit.values_of.Goals as goal

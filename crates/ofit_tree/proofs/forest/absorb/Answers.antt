@@ -1,13 +1,13 @@
-use Rattle.std.proofs.Common.{◌≡◌, ℕ, ◌+◌, ◌<◌, ◌≤◌, refl, sym, ap, subst, ◌∙◌, arith, List, length, set}
+use Rattle.std.proofs.Common.{◌≡◌, ℕ, ◌<◌, sym, ap, subst, ◌∙◌, arith, List, length, set}
 use Rattle.std.proofs.lemmas.List.{length-set}
-use Rattle.std.specs.Prelude.{All, slice_get, Some}
+use Rattle.std.specs.Prelude.{slice_get, Some}
 use Rattle.ofit_tree.specs.declared.block.Block.{Block}
 use Rattle.ofit_tree.specs.declared.forest.Slot.{Slot}
-use Rattle.ofit_tree.specs.declared.forest.Slot.TheVariants.{Open, Settled, Joined}
+use Rattle.ofit_tree.specs.declared.forest.Slot.TheVariants.{Open, Joined}
 use Rattle.std.specs.BinaryHeap.{heap_items}
 use Rattle.ofit_tree.specs.Merge.{IsRenumbered}
 use Rattle.ofit_tree.proofs.Slots.{other_set}
-use Rattle.ofit_tree.proofs.Steps.{both_apart, can_merge, upper_inside, child_inside, child_still, number_below, step_absorbs, step_count}
+use Rattle.ofit_tree.proofs.Steps.{both_apart, can_merge, upper_inside, child_inside, number_below, step_absorbs, step_count}
 use Rattle.ofit_tree.proofs.forest.absorb.Goals as goal
 
 -- a block that waits still does where another slot was changed

@@ -1,4 +1,4 @@
-use Rattle.std.proofs.Common.{◌≡◌, ℕ, ◌<◌, refl, sym, ap, subst, ◌∙◌, List, length, get_or}
+use Rattle.std.proofs.Common.{◌≡◌, ℕ, ◌<◌, refl, sym, ap, ◌∙◌, List, length, get_or}
 use Rattle.std.proofs.lemmas.Option.{slice_get_read, slice_get-get_or}
 use Rattle.std.proofs.lemmas.List.Elements.{All-get_or}
 use Rattle.std.specs.Prelude.{All, slice_get, slice_index, Option, Some, None}
@@ -6,7 +6,7 @@ use Rattle.ofit_tree.specs.declared.block.Block.{Block}
 use Rattle.ofit_tree.specs.declared.forest.Slot.{Slot}
 use Rattle.ofit_tree.specs.declared.forest.Slot.TheVariants.{Open, Settled, Joined}
 use Rattle.ofit_tree.specs.Tree.{IsParent}
-use Rattle.ofit_tree.specs.Forest.{IsOpenAbove, IsNoneAbove}
+use Rattle.ofit_tree.specs.Forest.{IsNoneAbove}
 use Rattle.ofit_tree.proofs.Pairs.{one_parent}
 use Rattle.ofit_tree.proofs.Closing.{open_settled, open_joined}
 use Rattle.ofit_tree.proofs.forest.open_above.Goals as goal

@@ -9,9 +9,9 @@ abbrev whole : ℤ → Fraction
 whole v = record { num = v; den = 1 }
 
 pub returns-clause-minimiser : goal.returns-clause-minimiser
-returns-clause-minimiser c = λ rows same fit some.
-    let exact : to_z w64 (of_z w64 c.least_median.result) ≡ c.least_median.result = omega (arith, ints) in
-    minimiser_of c.whole.result c.least_median.result c.deref.result.now rows (c.whole.ensures ∙ ap whole exact) (c.deref.ensures.value ∙ same) fit c.least_median.ensures.least c.least_median.ensures.greatest
+returns-clause-minimiser c = λ rows pooled fit some.
+    let exact : to_z w64 (of_z w64 c.least.result) ≡ c.least.result = omega (arith, ints) in
+    minimiser_of c.whole.result c.least.result rows (c.whole.ensures ∙ ap whole exact) fit (c.least.ensures.quantile 1 1 rows pooled)
 
 pub returns-clause-balances : goal.returns-clause-balances
-returns-clause-balances c = λ rows same fit some. balances_within rows c.whole.result fit.limits
+returns-clause-balances c = λ rows pooled fit some. balances_within rows c.whole.result fit.limits

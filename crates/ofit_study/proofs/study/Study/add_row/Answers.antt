@@ -49,15 +49,15 @@ returns-in-Ok-clause-added c =
     let i = c.self.inside in
     let fits : FitsSigned w64 c.args.value = search rules in
     let value_is : to_z w64 (of_z w64 c.args.value) ≡ c.args.value = simp to_z-of_z refl in
-    elim c.match-place_of.branch [
-      | in-Some w ↦ gained i.settings i.names i.entries.items i.groups i.pairs i.weight c.self.invariant c.args.self.now c.self.view_is c.match-place_of.self c.args.name.now _ _ c.args.value (omega (arith, c.len-2.ensures)) (named_so i.settings i.names i.entries.items i.groups i.pairs i.weight c.self.invariant c.args.self.now c.self.view_is w.in-Some.place c.args.name.now w.in-Some.ensures) value_is (w.self-is ∙ at_ok _ _ (sym w.added-is ∙ c.in-Ok.is) w.add_to_group-added.ensures.ok)
-      | in-None-2 w ↦ gained i.settings i.names i.entries.items i.groups i.pairs i.weight c.self.invariant c.args.self.now c.self.view_is c.match-place_of.self c.args.name.now _ _ c.args.value (omega (arith, c.len-2.ensures)) refl value_is (w.self-is ∙ at_ok _ _ (sym w.added-is ∙ c.in-Ok.is) w.add_group-added.ensures.ok)
+    elim c.match-place_near.branch [
+      | in-Some w ↦ gained i.settings i.names i.entries.items i.groups i.pairs i.weight c.self.invariant c.args.self.now c.self.view_is c.match-place_near.self c.args.name.now _ _ c.args.value (omega (arith, c.len-2.ensures)) (named_so i.settings i.names i.entries.items i.groups i.pairs i.weight c.self.invariant c.args.self.now c.self.view_is w.in-Some.place c.args.name.now w.in-Some.ensures) value_is (w.self-is ∙ at_ok _ _ (sym w.added-is ∙ c.in-Ok.is) w.add_to_group-added.ensures.ok)
+      | in-None-2 w ↦ gained i.settings i.names i.entries.items i.groups i.pairs i.weight c.self.invariant c.args.self.now c.self.view_is c.match-place_near.self c.args.name.now _ _ c.args.value (omega (arith, c.len-2.ensures)) refl value_is (w.self-is ∙ at_ok _ _ (sym w.added-is ∙ c.in-Ok.is) w.add_group-added.ensures.ok)
     ]
 
 pub returns-in-Ok-clause-taken : goal.returns-in-Ok-clause-taken
 returns-in-Ok-clause-taken c =
     let i = c.self.inside in
-    taken i.settings i.names i.entries.items i.groups i.pairs i.weight c.self.invariant c.args.self.now c.self.view_is c.args.name.now c.args.weight (omega (arith, c.len.ensures, c.if-len-ge-MOST_ROWS.false)) (omega (arith, c.if-weight-self.false)) (elim c.match-place_of.branch [
+    taken i.settings i.names i.entries.items i.groups i.pairs i.weight c.self.invariant c.args.self.now c.self.view_is c.args.name.now c.args.weight (omega (arith, c.len.ensures, c.if-len-ge-MOST_ROWS.false)) (omega (arith, c.if-weight-self.false)) (elim c.match-place_near.branch [
       | in-Some w ↦ has_group i.settings i.names i.entries.items i.groups i.pairs i.weight c.self.invariant c.args.self.now c.self.view_is w.in-Some.place c.args.name.now w.in-Some.ensures
       | in-None-2 w ↦ has_room i.settings i.names i.entries.items i.groups i.pairs i.weight c.self.invariant c.args.self.now c.self.view_is c.args.name.now (omega (arith, w.count.ensures, w.if-count-ge-MOST_GROUPS.false))
     ])
@@ -65,7 +65,7 @@ returns-in-Ok-clause-taken c =
 pub returns-in-Err-clause-refused : goal.returns-in-Err-clause-refused
 returns-in-Err-clause-refused c =
     let i = c.self.inside in
-    taken i.settings i.names i.entries.items i.groups i.pairs i.weight c.self.invariant c.args.self.now c.self.view_is c.args.name.now c.args.weight (omega (arith, c.len.ensures, c.if-len-ge-MOST_ROWS.false)) (omega (arith, c.if-weight-self.false)) (elim c.match-place_of.branch [
+    taken i.settings i.names i.entries.items i.groups i.pairs i.weight c.self.invariant c.args.self.now c.self.view_is c.args.name.now c.args.weight (omega (arith, c.len.ensures, c.if-len-ge-MOST_ROWS.false)) (omega (arith, c.if-weight-self.false)) (elim c.match-place_near.branch [
       | in-Some w ↦ has_group i.settings i.names i.entries.items i.groups i.pairs i.weight c.self.invariant c.args.self.now c.self.view_is w.in-Some.place c.args.name.now w.in-Some.ensures
       | in-None-2 w ↦ has_room i.settings i.names i.entries.items i.groups i.pairs i.weight c.self.invariant c.args.self.now c.self.view_is c.args.name.now (omega (arith, w.count.ensures, w.if-count-ge-MOST_GROUPS.false))
     ])

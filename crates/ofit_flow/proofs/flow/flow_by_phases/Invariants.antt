@@ -1,0 +1,10 @@
+use Rattle.std.proofs.Common.{◌+◌, ◌-◌, length}
+use Rattle.ofit_flow.proofs.Counting.{IsPhased}
+use Rattle.ofit_flow.proofs.flow.flow_by_phases.Given as goal
+
+abbrev pub invariant-loop-flow : goal.invariant-loop-flow
+invariant-loop-flow l =
+    IsPhased l.edges (length l.fn.search.levels.items) l.source l.sink l.flow.amounts.items l.flow.value l.search.levels.items l.walk.spent.items l.fn.phases.count l.phases.count
+
+abbrev pub decreases-loop-flow : goal.decreases-loop-flow
+decreases-loop-flow l = l.fn.phases.count + length l.fn.search.levels.items - l.phases.count

@@ -1,8 +1,0 @@
-use Rattle.std.proofs.Common.{◌≡◌, ◌-◌, ◌≤◌, vec_len}
-use Rattle.ofit_outside.proofs.disk_folder.DiskFolderFolder.fetch.Given as goal
-
-abbrev pub invariant-loop-count : goal.invariant-loop-count
-invariant-loop-count g l = (vec_len l.bytes ≤ l.limit) × (l.self ≡ l.initial.self)
-
-abbrev pub decreases-loop-count : goal.decreases-loop-count
-decreases-loop-count g l = l.limit - vec_len l.bytes

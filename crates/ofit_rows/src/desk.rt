@@ -1,0 +1,179 @@
+use ofit_num::{Tally, read_whole};
+use ofit_outside::{MemFolder, MemSink};
+use ofit_top::{run, status};
+use std::alloc::{AllocError, Global};
+use std::rt::Files;
+use std::process::Abort;
+use std::test::Fail;
+
+const ROOM: u64 = 200_000;
+
+/// The files that runs find, the faults that they meet, and what the last run put out.
+#[derive(Drop)]
+pub(crate) struct Desk {
+    folder: MemFolder,
+    pub(crate) failing_put: u64,
+    room: u64,
+    err_room: u64,
+    pub(crate) out: Vec<u8>,
+    err: Vec<u8>,
+}
+
+impl Desk {
+    /// A desk without files, where the fetch of this number fails. None has the number 0.
+    pub(crate) fn new(alloc: Global, failing_fetch: u64) -> Result<Desk, AllocError> {
+        Ok(Desk {
+            folder: MemFolder::new(alloc, &[failing_fetch])?,
+            failing_put: 0,
+            room: ROOM,
+            err_room: ROOM,
+            out: Vec::new(alloc),
+            err: Vec::new(alloc),
+        })
+    }
+
+    pub(crate) fn hold(&mut self, name: &str, bytes: &[u8]) -> Result<(), AllocError> {
+        self.folder.hold(name, bytes)
+    }
+
+    /// Runs the words, and tells status, fits and cuts.
+    pub(crate) fn run<R: Files>(
+        &mut self,
+        rt: &R,
+        alloc: Global,
+        words: &[String],
+    ) -> Result<String, AllocError> {
+        let mut out = MemSink::new(alloc, self.room, &[self.failing_put])?;
+        let mut err = MemSink::new(alloc, self.err_room, &[])?;
+        let mut tally = Tally::new(rt);
+        let answer = run(
+            alloc,
+            words,
+            &mut self.folder,
+            &mut out,
+            &mut err,
+            &mut tally,
+        );
+        self.out = Vec::from_slice(alloc, out.bytes())?;
+        self.err = Vec::from_slice(alloc, err.bytes())?;
+        let (status, fits, cuts) = (status(&answer), tally.fits(), tally.cuts());
+        format!(in alloc; "{status} {fits} {cuts}")
+    }
+}
+
+/// The bytes of a section's body, each of whose lines is ended.
+fn bytes_of(alloc: Global, body: &str) -> Result<Vec<u8>, AllocError> {
+    let mut bytes = Vec::from_slice(alloc, body.as_bytes())?;
+    if !body.is_empty() {
+        bytes.push(b'\n')?;
+    }
+    Ok(bytes)
+}
+
+fn number_of(text: &str) -> u64 {
+    match read_whole(text.as_bytes(), 200_000) {
+        Ok(number) => number as u64,
+        Err(_) => 0,
+    }
+}
+
+fn text_of(bytes: &[u8]) -> &str {
+    match std::str::from_utf8(bytes) {
+        Ok(text) => text,
+        Err(_) => "no text",
+    }
+}
+
+/// The words behind the three numbers.
+fn words_of(alloc: Global, line: &str) -> Result<Vec<String>, AllocError> {
+    let mut words = Vec::new(alloc);
+    for (place, word) in line.split(' ').enumerate() {
+        if place > 2 {
+            words.push(String::from_str(alloc, word)?)?;
+        }
+    }
+    Ok(words)
+}
+
+/// Runs the line's words. The run has to end with the line's numbers, and to write these bytes.
+fn run_line<R: Abort + Files>(
+    rt: &R,
+    alloc: Global,
+    desk: &mut Desk,
+    line: &str,
+    wanted: &[u8],
+) -> Result<(), Fail> {
+    let words = words_of(alloc, line)?;
+    let told = desk.run(rt, alloc, words.as_slice())?;
+    assert_eq!(rt; text_of(desk.out.as_slice()), text_of(wanted), "{line}");
+    assert!(rt; line.starts_with(told.as_str()), "{line} ended with {told}");
+    Ok(())
+}
+
+/// What the last run told on err.
+fn err_line<R: Abort>(rt: &R, alloc: Global, desk: &Desk, body: &str) -> Result<(), Fail> {
+    let wanted = bytes_of(alloc, body)?;
+    assert_eq!(rt; text_of(desk.err.as_slice()), text_of(wanted.as_slice()));
+    Ok(())
+}
+
+/// Does what a section says.
+fn take_section<R: Abort + Files>(
+    rt: &R,
+    alloc: Global,
+    desk: &mut Desk,
+    head: &str,
+    body: &str,
+) -> Result<(), Fail> {
+    let (kind, rest) = match head.split_once(' ') {
+        Some(parts) => parts,
+        None => (head, ""),
+    };
+    if kind == "case" {
+        *desk = Desk::new(alloc, 0)?;
+    } else if kind == "failing-fetch" {
+        *desk = Desk::new(alloc, number_of(rest))?;
+    } else if kind == "failing-put" {
+        desk.failing_put = number_of(rest);
+    } else if kind == "room" {
+        desk.room = number_of(rest);
+    } else if kind == "err-room" {
+        desk.err_room = number_of(rest);
+    } else if kind == "file" {
+        desk.hold(rest, bytes_of(alloc, body)?.as_slice())?;
+    } else if kind == "keep" {
+        desk.folder.hold(rest, desk.out.as_slice())?;
+    } else if kind == "run" {
+        run_line(rt, alloc, desk, rest, bytes_of(alloc, body)?.as_slice())?;
+    } else if kind == "cut" {
+        run_line(rt, alloc, desk, rest, body.as_bytes())?;
+    } else if kind == "err" {
+        err_line(rt, alloc, desk, body)?;
+    } else {
+        assert!(rt; kind.is_empty(), "no section: {head}");
+    }
+    Ok(())
+}
+
+/// Goes through the rows of a text. Each section begins with a line `-- KIND ..`, and what stands up to the
+/// next one is its body:
+///
+/// - `case NAME`: a new desk without files and faults;
+/// - `failing-fetch N`, `failing-put N`, `room N`, `err-room N`: the N-th fetch or put fails, out or err
+///   takes no more than N bytes (`failing-fetch` stands before the files);
+/// - `file NAME`: the body is held as a file;
+/// - `run STATUS FITS CUTS WORDS`: a run ends with this status and these counts, and its output is the body;
+/// - `cut STATUS FITS CUTS WORDS`: the same, where the output's last line has no end;
+/// - `keep NAME`: the output is held as a file;
+/// - `err`: the body is what the run told on err.
+pub(crate) fn rows_hold<R: Abort + Files>(rt: &R, alloc: Global, text: &str) -> Result<(), Fail> {
+    let mut desk = Desk::new(alloc, 0)?;
+    for section in text.split("\n-- ") {
+        let (head, body) = match section.split_once('\n') {
+            Some(parts) => parts,
+            None => (section, ""),
+        };
+        take_section(rt, alloc, &mut desk, head, body)?;
+    }
+    Ok(())
+}

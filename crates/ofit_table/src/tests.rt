@@ -1,2 +1,0 @@
-mod data;
-mod orders;

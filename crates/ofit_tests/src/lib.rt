@@ -1,0 +1,17 @@
+//! What no clause says of the lower crates' public calls: that the definitions which clauses cite mean what
+//! they should, by values from outside, and that each call succeeds where memory is ample. What a run shows
+//! stands in ofit_rows.
+#![tactic(auto)]
+
+#[cfg(test)]
+mod decimals;
+#[cfg(test)]
+mod levels;
+#[cfg(test)]
+mod names;
+#[cfg(test)]
+mod numbers;
+#[cfg(test)]
+mod orders;
+#[cfg(test)]
+mod records;
