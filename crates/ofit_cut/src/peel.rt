@@ -4,6 +4,9 @@
 //! Nothing is promised of the amounts: [`peeled`](crate::peeled::peeled) checks them. Sums that would leave
 //! 128 bits stop at the end of the range.
 
+ghost use Rattle.std.specs.Prelude.{◌≡◌, ◌+ℤ◌};
+ghost use Rattle.std.specs.Int.{saturate_signed, w128};
+
 use crate::span::Span;
 use crate::two_core::core_amounts;
 use ofit_flow::MAX_CAPACITY;
@@ -84,7 +87,10 @@ impl Reach {
     }
 
     /// Takes in what a leaf gives.
-    fn join(&mut self, given: Stretch, is_low: bool) {
+    fn join(&mut self, given: Stretch, is_low: bool)
+        ensures low { self.new.low ≡ saturate_signed w128 (self.old.low +ℤ given.low) }
+        ensures high { self.new.high ≡ saturate_signed w128 (self.old.high +ℤ given.high) }
+    {
         self.low = self.low.saturating_add(given.low);
         self.high = self.high.saturating_add(given.high);
         if !is_low {
