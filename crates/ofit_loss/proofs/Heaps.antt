@@ -1,10 +1,10 @@
 -- rows that are put into the two sides of a pool, and moved across
-use Rattle.std.proofs.Common.{◌≡◌, ℕ, ◌+◌, ◌≤◌, ◌<◌, List, [], ◌∷◌, length, get_or, refl, sym, ap, subst, arith, cond, Bool, true, false, inl, inr, ◌*◌, ◌-◌, mul-le-mul_left}
+use Rattle.std.proofs.Common.{◌≡◌, ℕ, ◌+◌, ◌≤◌, ◌<◌, List, [], ◌∷◌, length, get_or, refl, sym, ap, subst, arith, cond, Bool, true, false, inl, inr, ◌*◌, ◌-◌, mul-le-mul_left, take, drop}
 use Rattle.std.proofs.lemmas.Bool.{cases_order}
 use Rattle.std.proofs.lemmas.Int.{ints}
 use Rattle.std.proofs.lemmas.Cmp.{int_ranked}
 use Rattle.std.proofs.lemmas.List.Elements.{All-from_recursion, All-cons, All-head, All-tail, All-weaker, All-get_or}
-use Rattle.std.proofs.lemmas.List.Sums.{sum_by-cons, sum_by-le-sum_by}
+use Rattle.std.proofs.lemmas.List.Sums.{sum_by-cons, sum_by-le-sum_by, sum_by-take-drop}
 use Rattle.std.proofs.lemmas.List.Sorted.{All-permutation, sum_by_pushed}
 use Rattle.std.specs.Prelude.{ℤ, ◌≤ℤ◌, ◌<ℤ◌, All, sum_by, IsTrue}
 use Rattle.std.specs.BinaryHeap.{IsUpperBound}
@@ -13,6 +13,7 @@ use Rattle.std.specs.Ordering.{int_cmp, is_lt, MatchOrdering}
 use Rattle.std.specs.declared.cmp.Ordering.{Ordering}
 use Rattle.std.specs.declared.cmp.Ordering.TheVariants.{Less, Equal, Greater}
 use Rattle.std.specs.declared.cmp.Reverse.{Reverse}
+use Rattle.ofit_num.specs.declared.row.Row.{Row}
 use Rattle.ofit_loss.specs.declared.entry.Entry.{Entry}
 use Rattle.ofit_loss.specs.Entry.{entry_cmp}
 use Rattle.ofit_loss.specs.Quantile.{entry_under, AreApart}
@@ -116,3 +117,15 @@ under_share k s under top side whole h e fails = elim (cases_order (k * under) s
 
 pub not_both : (b : Bool) → IsTrue b → b ≡ false → ⊥
 not_both b holds fails = cc
+
+-- a sum over rows that are parted twice
+pub parted_sum : (f : Row → ℕ) (rows front rest sample back : List Row) (n k : ℕ) → front ≡ take n rows → rest ≡ drop n rows → sample ≡ take k rest → back ≡ drop k rest → sum_by f rows ≡ sum_by f front + (sum_by f sample + sum_by f back)
+parted_sum f rows front rest sample back n k first second third fourth = omega (
+  arith,
+  sum_by-take-drop f rows n,
+  sum_by-take-drop f rest k,
+  ap (λ (xs : List Row). sum_by f xs) first,
+  ap (λ (xs : List Row). sum_by f xs) second,
+  ap (λ (xs : List Row). sum_by f xs) third,
+  ap (λ (xs : List Row). sum_by f xs) fourth,
+)

@@ -35,7 +35,8 @@ impl QuantilePool {
     ghost use Rattle.ofit_loss.specs.Entry.{entry_of};
     ghost use Rattle.ofit_loss.specs.Quantile.{IsQuantile, IsSplit, IsLeastShare, IsBalanced, IsQuantilePool, HasQuantile, AreFactors, entry_under, low_sum, pool_sum};
 
-    /// The pool of the rows.
+    /// The pool of the rows. Some rows from the middle are put in first, so that most of the others come
+    /// to their side at once.
     pub fn of(alloc: Global, factors: Factors, rows: &[Row]) -> Result<QuantilePool, AllocError>
         requires factors { AreFactors factors.above factors.below }
         requires limits { AreWithinLimits rows.now }
@@ -47,9 +48,12 @@ impl QuantilePool {
             low_weight: 0,
             weight: 0,
         };
-        let (front, back) = rows.split_at(rows.len() / 2);
-        pool.insert_rows(back)?;
+        let (front, rest) = rows.split_at(rows.len() / 2);
+        let (sample, back) = rest.split_at(rest.len() / 4);
+        pool.insert_rows(sample)?;
+        pool.balance(factors)?;
         pool.insert_rows(front)?;
+        pool.insert_rows(back)?;
         pool.balance(factors)?;
         Ok(pool)
     }
