@@ -10,7 +10,6 @@ use Rattle.ofit_study.specs.Study.{Study, problem_stated, meaning_of}
 use Rattle.ofit_words.specs.declared.job.Inputs.{Inputs}
 use Rattle.ofit_words.specs.declared.job.Job.{Job}
 use Rattle.ofit_words.specs.declared.job.Job.TheVariants.{Fit, Report, Verify, Session, Unimodal, VerifyUnimodal, Levels, Sample}
-use Rattle.ofit_fit.specs.Piece.{HasPooledForms}
 use Rattle.ofit_fit.specs.Counted.{HasComponentCount}
 use Rattle.ofit_fit.proofs.Fitted.{one_count}
 use Rattle.ofit_check.specs.declared.verdict.Verdict.{Verdict}
@@ -140,16 +139,13 @@ module _ (h : Held) (studies : StudiesAreOne h) (sheets : SheetsAreGivenOnce h) 
 
   one_fit_refusal : (inputs : Inputs) (r t : Refusal) → IsFitRefused (Some h) inputs r → IsFitRefused (Some h) inputs t → r ≡ t
   one_fit_refusal inputs r t (inl x) (inl y) = x.1 ∙ sym y.1
-  one_fit_refusal inputs r t (inl (inl barred, e)) (inr (u, y)) = absurd (barred u)
-  one_fit_refusal inputs r t (inl (inr (v, (s, x, barred)), e)) (inr (u, y)) = absurd (no_study inputs s t x y)
-  one_fit_refusal inputs r t (inr (u, x)) (inl (inl barred, e)) = absurd (barred u)
-  one_fit_refusal inputs r t (inr (u, x)) (inl (inr (v, (s, y, barred)), e)) = absurd (no_study inputs s r y x)
+  one_fit_refusal inputs r t (inl (barred, e)) (inr (u, y)) = absurd (barred u)
+  one_fit_refusal inputs r t (inr (u, x)) (inl (barred, e)) = absurd (barred u)
   one_fit_refusal inputs r t (inr (u, x)) (inr (v, y)) = same_refusal inputs r t x y
 
   -- what is fitted isn't refused
   no_fit : (inputs : Inputs) (text : List ℕ) (n : ℕ) (r : Refusal) → IsFitted (Some h) inputs text n → IsFitRefused (Some h) inputs r → ⊥
-  no_fit inputs text n r x (inl (inl barred, e)) = barred x.unbounded
-  no_fit inputs text n r x (inl (inr (v, (s, y, barred)), e)) = barred (subst HasPooledForms (same_study inputs x.study s x.given y) x.pooled)
+  no_fit inputs text n r x (inl (barred, e)) = barred x.unbounded
   no_fit inputs text n r x (inr (u, y)) = no_study inputs x.study r x.given y
 
   one_fit : (inputs : Inputs) (a b : Answer) (n m : ℕ) → FitEnds h inputs a n → FitEnds h inputs b m → (a ≡ b) × (n ≡ m)

@@ -10,7 +10,7 @@ use Rattle.ofit_study.specs.Study.{Study, names_of, problem_stated, meaning_of}
 use Rattle.ofit_words.specs.declared.job.Inputs.{Inputs}
 use Rattle.ofit_words.specs.declared.job.Job.{Job}
 use Rattle.ofit_words.specs.declared.job.Job.TheVariants.{Fit, Report, Verify, Session, Unimodal, VerifyUnimodal, Levels, Sample}
-use Rattle.ofit_fit.specs.Piece.{IsUnbounded, HasPooledForms}
+use Rattle.ofit_fit.specs.Piece.{IsUnbounded}
 use Rattle.ofit_fit.specs.Counted.{HasComponentCount}
 use Rattle.ofit_sheet.specs.SheetText.{sheet_text}
 use Rattle.ofit_sheet.specs.SheetRead.{SheetRead}
@@ -38,7 +38,6 @@ pub record IsFitted (held : Option Held) (inputs : Inputs) (text : List ℕ) (fi
   pub unbounded : IsUnbounded inputs.settings
   pub study : Study
   pub given : StudyGives held inputs (Ok study)
-  pub pooled : HasPooledForms study
   pub fit : IsFitOf study text
   pub counted : HasComponentCount (problem_stated study) fits
 
@@ -52,13 +51,9 @@ pub record IsVerified (held : Option Held) (inputs : Inputs) (name : List ℕ) (
   pub best : said ≡ verdicts.Passes → BestValues (meaning_of study.settings.loss) (problem_stated study) (num.sheet_values sheet)
   pub line : text ≡ verdict_text study said
 
--- a fit with bounds, or of a study of which a component is neither a chain nor a tree
-abbrev pub IsFitNotBuilt : Option Held → Inputs → Type 0
-IsFitNotBuilt held inputs = (IsUnbounded inputs.settings → ⊥) ⊎ (IsUnbounded inputs.settings × ((study : Study) × StudyGives held inputs (Ok study) × (HasPooledForms study → ⊥)))
-
--- why a fit is refused: it isn't built, or its study isn't given
+-- why a fit is refused: it has bounds, which aren't built, or its study isn't given
 abbrev pub IsFitRefused : Option Held → Inputs → Refusal → Type 0
-IsFitRefused held inputs refusal = (IsFitNotBuilt held inputs × (refusal ≡ NotBuilt)) ⊎ (IsUnbounded inputs.settings × StudyGives held inputs (Err refusal))
+IsFitRefused held inputs refusal = ((IsUnbounded inputs.settings → ⊥) × (refusal ≡ NotBuilt)) ⊎ (IsUnbounded inputs.settings × StudyGives held inputs (Err refusal))
 
 -- why a sheet isn't verified: its study isn't given, or it isn't given itself
 abbrev pub IsSheetRefused : Option Held → Inputs → List ℕ → Refusal → Type 0
