@@ -110,6 +110,19 @@ fn run_line<R: Abort + Files>(
     Ok(())
 }
 
+/// Runs the line's words. The run has to end with the line's numbers, whatever it writes.
+fn run_unseen<R: Abort + Files>(
+    rt: &R,
+    alloc: Global,
+    desk: &mut Desk,
+    line: &str,
+) -> Result<(), Fail> {
+    let words = words_of(alloc, line)?;
+    let told = desk.run(rt, alloc, words.as_slice())?;
+    assert!(rt; line.starts_with(told.as_str()), "{line} ended with {told}");
+    Ok(())
+}
+
 /// What the last run told on err.
 fn err_line<R: Abort>(rt: &R, alloc: Global, desk: &Desk, body: &str) -> Result<(), Fail> {
     let wanted = bytes_of(alloc, body)?;
@@ -147,6 +160,8 @@ fn take_section<R: Abort + Files>(
         run_line(rt, alloc, desk, rest, bytes_of(alloc, body)?.as_slice())?;
     } else if kind == "cut" {
         run_line(rt, alloc, desk, rest, body.as_bytes())?;
+    } else if kind == "any" {
+        run_unseen(rt, alloc, desk, rest)?;
     } else if kind == "err" {
         err_line(rt, alloc, desk, body)?;
     } else {
@@ -164,6 +179,7 @@ fn take_section<R: Abort + Files>(
 /// - `file NAME`: the body is held as a file;
 /// - `run STATUS FITS CUTS WORDS`: a run ends with this status and these counts, and its output is the body;
 /// - `cut STATUS FITS CUTS WORDS`: the same, where the output's last line has no end;
+/// - `any STATUS FITS CUTS WORDS`: the same, whatever the output;
 /// - `keep NAME`: the output is held as a file;
 /// - `err`: the body is what the run told on err.
 pub(crate) fn rows_hold<R: Abort + Files>(rt: &R, alloc: Global, text: &str) -> Result<(), Fail> {

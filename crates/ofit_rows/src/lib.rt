@@ -11,6 +11,8 @@ mod fits;
 #[cfg(test)]
 mod large;
 #[cfg(test)]
+mod orders;
+#[cfg(test)]
 mod refusals;
 #[cfg(test)]
 mod sheets;

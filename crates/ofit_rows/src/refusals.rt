@@ -124,13 +124,6 @@ ofit: not built
 ofit: not built
 -- run 3 0 0 sample rows=2000 groups=2000 seed=4294967295 shape=tree loss=median
 -- err
-ofit: not built
--- file o
-low,high
-A,B
-B,A
--- run 3 0 0 fit d order=file:o
--- err
 ofit: not built"#;
 
 const TABLES: &str = r#"

@@ -14,7 +14,7 @@ use Rattle.ofit_answer.specs.declared.answer.Refusal.{Refusal}
 use Rattle.ofit_input.specs.Stops.{Stops}
 use Rattle.ofit_top.specs.Accepted.{IsNoRefusal}
 use Rattle.ofit_top.specs.Jobs.{JobGives, IsRefused, Fetches}
-use Rattle.ofit_top.specs.Counting.{counted, CountsStopped}
+use Rattle.ofit_top.specs.Counting.{IsCounted, CountsStopped}
 use Rattle.ofit_top.specs.Run.{RunGives, IsOutput, Writes, CountsRead, CountsWrite}
 
 -- a job's own answer goes with an output
@@ -39,7 +39,7 @@ asked words held job Memory text n read gives = absurd gives
 
 -- and where its whole text was put, the run wrote it
 pub job_writes : (words : List (List ℕ)) (held : Option Held) (before after : Option (List ℕ)) (old new : Counts) (job : Job) (answer : Answer) (text : List ℕ) (n : ℕ)
-    → WordsRead words (Ok job) → JobGives held job answer text n → after ≡ with_more before text → new ≡ counted n old → Writes words held before after old new answer
+    → WordsRead words (Ok job) → JobGives held job answer text n → after ≡ with_more before text → IsCounted n old new → Writes words held before after old new answer
 job_writes words held before after old new job Done text n read gives put counts = record { text = text; fits = n; gives = (job, read, gives); put = put; counts = counts }
 job_writes words held before after old new job (Fails said) text n read gives put counts = record { text = text; fits = n; gives = (job, read, gives); put = put; counts = counts }
 job_writes words held before after old new job (Words fault) text n read gives put counts = absurd gives

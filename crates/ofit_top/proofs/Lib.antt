@@ -2,10 +2,6 @@ pub mod Pieces
 pub mod Counted
 pub mod Endings
 pub mod OnErr
-pub mod Patterns
-pub mod Ended
-pub mod Umbrellas
-pub mod RootedTrees
 pub mod Results
 pub mod OneFile
 pub mod OneGiven

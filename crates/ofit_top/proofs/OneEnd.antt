@@ -10,7 +10,6 @@ use Rattle.ofit_study.specs.Study.{Study, problem_stated, meaning_of}
 use Rattle.ofit_words.specs.declared.job.Inputs.{Inputs}
 use Rattle.ofit_words.specs.declared.job.Job.{Job}
 use Rattle.ofit_words.specs.declared.job.Job.TheVariants.{Fit, Report, Verify, Session, Unimodal, VerifyUnimodal, Levels, Sample}
-use Rattle.ofit_fit.specs.Piece.{HasPooledForms}
 use Rattle.ofit_fit.specs.Counted.{HasComponentCount}
 use Rattle.ofit_fit.proofs.Fitted.{one_count}
 use Rattle.ofit_check.specs.declared.verdict.Verdict.{Verdict}
@@ -21,7 +20,7 @@ use Rattle.ofit_answer.specs.declared.answer.Answer.TheVariants.{Done, Fails, Wo
 use Rattle.ofit_answer.specs.declared.answer.Refusal.{Refusal}
 use Rattle.ofit_answer.specs.declared.answer.Refusal.TheVariants.{NotBuilt}
 use Rattle.ofit_input.specs.Given.{StudyGives, SheetGives}
-use Rattle.ofit_top.specs.Jobs.{IsFitted, IsVerified, IsFitRefused, IsSheetRefused, IsRefused, IsDone, HasFailed}
+use Rattle.ofit_top.specs.Jobs.{IsFitted, IsVerified, IsSheetRefused, IsRefused, IsDone, HasFailed}
 use Rattle.ofit_top.specs.Verdicts.{answer_to}
 use Rattle.ofit_top.proofs.Results.{ok_same, err_same, ok_apart}
 
@@ -72,7 +71,7 @@ JobEnds h job Memory n = ⊥
 
 -- a fit is fitted or refused,
 abbrev FitEnds : Held → Inputs → Answer → ℕ → Type 0
-FitEnds h inputs a n = ((text : List ℕ) × (a ≡ Done) × IsFitted (Some h) inputs text n) ⊎ ((refusal : Refusal) × (a ≡ Refused refusal) × (n ≡ 0) × IsFitRefused (Some h) inputs refusal)
+FitEnds h inputs a n = ((text : List ℕ) × (a ≡ Done) × IsFitted (Some h) inputs text n) ⊎ ((refusal : Refusal) × (a ≡ Refused refusal) × (n ≡ 0) × StudyGives (Some h) inputs (Err refusal))
 
 fit_ends : (h : Held) (inputs : Inputs) (a : Answer) (n : ℕ) → JobEnds h (Fit inputs) a n → FitEnds h inputs a n
 fit_ends h inputs Done n (text, x) = inl (text, refl, x)
@@ -138,28 +137,14 @@ module _ (h : Held) (studies : StudiesAreOne h) (sheets : SheetsAreGivenOnce h) 
   no_study : (inputs : Inputs) (s : Study) (r : Refusal) → StudyGives (Some h) inputs (Ok s) → StudyGives (Some h) inputs (Err r) → ⊥
   no_study inputs s r x y = ok_apart s r (studies inputs (Ok s) (Err r) x y)
 
-  one_fit_refusal : (inputs : Inputs) (r t : Refusal) → IsFitRefused (Some h) inputs r → IsFitRefused (Some h) inputs t → r ≡ t
-  one_fit_refusal inputs r t (inl x) (inl y) = x.1 ∙ sym y.1
-  one_fit_refusal inputs r t (inl (inl barred, e)) (inr (u, y)) = absurd (barred u)
-  one_fit_refusal inputs r t (inl (inr (v, (s, x, barred)), e)) (inr (u, y)) = absurd (no_study inputs s t x y)
-  one_fit_refusal inputs r t (inr (u, x)) (inl (inl barred, e)) = absurd (barred u)
-  one_fit_refusal inputs r t (inr (u, x)) (inl (inr (v, (s, y, barred)), e)) = absurd (no_study inputs s r y x)
-  one_fit_refusal inputs r t (inr (u, x)) (inr (v, y)) = same_refusal inputs r t x y
-
-  -- what is fitted isn't refused
-  no_fit : (inputs : Inputs) (text : List ℕ) (n : ℕ) (r : Refusal) → IsFitted (Some h) inputs text n → IsFitRefused (Some h) inputs r → ⊥
-  no_fit inputs text n r x (inl (inl barred, e)) = barred x.unbounded
-  no_fit inputs text n r x (inl (inr (v, (s, y, barred)), e)) = barred (subst HasPooledForms (same_study inputs x.study s x.given y) x.pooled)
-  no_fit inputs text n r x (inr (u, y)) = no_study inputs x.study r x.given y
-
   one_fit : (inputs : Inputs) (a b : Answer) (n m : ℕ) → FitEnds h inputs a n → FitEnds h inputs b m → (a ≡ b) × (n ≡ m)
   one_fit inputs a b n m (inl (text, e, x)) (inl (other, d, y)) = (
     e ∙ sym d,
     one_count (problem_stated x.study) n m x.counted (subst (λ (s : Study). HasComponentCount (problem_stated s) m) (same_study inputs y.study x.study y.given x.given) y.counted),
   )
-  one_fit inputs a b n m (inl (text, e, x)) (inr (t, d, v, y)) = absurd (no_fit inputs text n t x y)
-  one_fit inputs a b n m (inr (r, e, u, x)) (inl (text, d, y)) = absurd (no_fit inputs text m r y x)
-  one_fit inputs a b n m (inr (r, e, u, x)) (inr (t, d, v, y)) = (e ∙ ap Refused (one_fit_refusal inputs r t x y) ∙ sym d, u ∙ sym v)
+  one_fit inputs a b n m (inl (text, e, x)) (inr (t, d, v, y)) = absurd (no_study inputs x.study t x.given y)
+  one_fit inputs a b n m (inr (r, e, u, x)) (inl (text, d, y)) = absurd (no_study inputs y.study r y.given x)
+  one_fit inputs a b n m (inr (r, e, u, x)) (inr (t, d, v, y)) = (e ∙ ap Refused (same_refusal inputs r t x y) ∙ sym d, u ∙ sym v)
 
   sheet_of : (inputs : Inputs) (name : List ℕ) (s t : Study) (r : Result (num.Sheet Settings) Refusal) → StudyGives (Some h) inputs (Ok s) → StudyGives (Some h) inputs (Ok t) → SheetGives (Some h) name s r → SheetGives (Some h) name t r
   sheet_of inputs name s t r x y = subst (λ (study : Study). SheetGives (Some h) name study r) (same_study inputs s t x y)

@@ -10,7 +10,6 @@ use Rattle.ofit_study.specs.Study.{Study, names_of, problem_stated, meaning_of}
 use Rattle.ofit_words.specs.declared.job.Inputs.{Inputs}
 use Rattle.ofit_words.specs.declared.job.Job.{Job}
 use Rattle.ofit_words.specs.declared.job.Job.TheVariants.{Fit, Report, Verify, Session, Unimodal, VerifyUnimodal, Levels, Sample}
-use Rattle.ofit_fit.specs.Piece.{IsUnbounded, HasPooledForms}
 use Rattle.ofit_fit.specs.Counted.{HasComponentCount}
 use Rattle.ofit_sheet.specs.SheetText.{sheet_text}
 use Rattle.ofit_sheet.specs.SheetRead.{SheetRead}
@@ -35,10 +34,8 @@ pub record IsFitOf (s : Study) (text : List ℕ) : Type 0 where
 
 -- the fit of these inputs, and one count for each component of its study
 pub record IsFitted (held : Option Held) (inputs : Inputs) (text : List ℕ) (fits : ℕ) : Type 0 where
-  pub unbounded : IsUnbounded inputs.settings
   pub study : Study
   pub given : StudyGives held inputs (Ok study)
-  pub pooled : HasPooledForms study
   pub fit : IsFitOf study text
   pub counted : HasComponentCount (problem_stated study) fits
 
@@ -52,21 +49,13 @@ pub record IsVerified (held : Option Held) (inputs : Inputs) (name : List ℕ) (
   pub best : said ≡ verdicts.Passes → BestValues (meaning_of study.settings.loss) (problem_stated study) (num.sheet_values sheet)
   pub line : text ≡ verdict_text study said
 
--- a fit with bounds, or of a study of which a component is neither a chain nor a tree
-abbrev pub IsFitNotBuilt : Option Held → Inputs → Type 0
-IsFitNotBuilt held inputs = (IsUnbounded inputs.settings → ⊥) ⊎ (IsUnbounded inputs.settings × ((study : Study) × StudyGives held inputs (Ok study) × (HasPooledForms study → ⊥)))
-
--- why a fit is refused: it isn't built, or its study isn't given
-abbrev pub IsFitRefused : Option Held → Inputs → Refusal → Type 0
-IsFitRefused held inputs refusal = (IsFitNotBuilt held inputs × (refusal ≡ NotBuilt)) ⊎ (IsUnbounded inputs.settings × StudyGives held inputs (Err refusal))
-
 -- why a sheet isn't verified: its study isn't given, or it isn't given itself
 abbrev pub IsSheetRefused : Option Held → Inputs → List ℕ → Refusal → Type 0
 IsSheetRefused held inputs name refusal = StudyGives held inputs (Err refusal) ⊎ ((study : Study) × StudyGives held inputs (Ok study) × SheetGives held name study (Err refusal))
 
--- why a job is refused: the commands other than fit and verify aren't built
+-- why a job is refused: the study of a fit isn't given, a sheet or its study isn't, and the other commands aren't built
 abbrev pub IsRefused : Option Held → Job → Refusal → Type 0
-IsRefused held (Fit inputs) refusal = IsFitRefused held inputs refusal
+IsRefused held (Fit inputs) refusal = StudyGives held inputs (Err refusal)
 IsRefused held (Verify inputs name) refusal = IsSheetRefused held inputs name refusal
 IsRefused held (Report inputs) refusal = refusal ≡ NotBuilt
 IsRefused held (Session inputs script) refusal = refusal ≡ NotBuilt
@@ -105,9 +94,9 @@ JobGives held job answer.ReadFault text fits = ⊥
 JobGives held job answer.WriteFault text fits = ⊥
 JobGives held job answer.Memory text fits = ⊥
 
--- the job fetches files: a fit that its words don't refuse, and each verification
+-- the job fetches files: each fit and each verification
 abbrev pub Fetches : Job → Type 0
-Fetches (Fit inputs) = IsUnbounded inputs.settings
+Fetches (Fit inputs) = ⊤
 Fetches (Verify inputs name) = ⊤
 Fetches (Report inputs) = ⊥
 Fetches (Session inputs script) = ⊥

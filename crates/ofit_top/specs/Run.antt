@@ -10,7 +10,7 @@ use Rattle.ofit_words.specs.Words.{WordsRead}
 use Rattle.ofit_answer.specs.declared.answer.Answer.{Answer}
 use Rattle.ofit_answer.specs.declared.answer.Answer.TheVariants.{Done, Fails, Words, Refused, ReadFault, WriteFault, Memory}
 use Rattle.ofit_top.specs.Jobs.{JobGives, IsRefused, Fetches}
-use Rattle.ofit_top.specs.Counting.{counted, MayCount}
+use Rattle.ofit_top.specs.Counting.{IsCounted, MayCount}
 
 -- the bytes of each word
 abbrev pub texts : List (String Global) → List (List ℕ)
@@ -36,7 +36,7 @@ pub record Wrote (words : List (List ℕ)) (held : Option Held) (before after : 
   pub fits : ℕ
   pub gives : RunGives words held answer text fits
   pub put : after ≡ with_more before text
-  pub counts : new ≡ counted fits old
+  pub counts : IsCounted fits old new
 
 -- the answer goes with an output
 abbrev pub IsOutput : Answer → Type 0
@@ -56,7 +56,7 @@ pub record WroteInPart (words : List (List ℕ)) (held : Option Held) (before af
   pub fits : ℕ
   pub gives : RunGives words held answer text fits
   pub put : GainsPrefix before after text
-  pub counts : new ≡ counted fits old
+  pub counts : IsCounted fits old new
 
 -- the words ask for a job that fetches files
 abbrev pub AskToFetch : List (List ℕ) → Type 0

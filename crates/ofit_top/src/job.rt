@@ -2,7 +2,7 @@ ghost use Rattle.std.specs.Prelude.{◌≡◌, ◌≤◌, ◌^◌, ℕ, IfOk, If
 ghost use Rattle.ofit_words.specs.Words.{IsJobInLimits};
 ghost use Rattle.ofit_input.specs.Stops.{Stops};
 ghost use Rattle.ofit_top.specs.Jobs.{JobGives, IsRefused, Fetches};
-ghost use Rattle.ofit_top.specs.Counting.{counted, CountsStopped};
+ghost use Rattle.ofit_top.specs.Counting.{IsCounted, CountsStopped};
 
 use crate::fit::fit_text;
 use crate::printed::Printed;
@@ -23,7 +23,8 @@ pub(crate) fn do_job<F: Folder>(
 ) -> Result<Printed, Answer>
     requires limits { IsJobInLimits job.now }
     requires room { tally.old.fits ≤ 2 ^ 63 }
-    ensures gives { IfOk result (λ printed. (n : ℕ) × JobGives (F.held folder.old) job.now printed.answer printed.text.items n × (tally.new ≡ counted n tally.old)) }
+    requires room_for_cuts { tally.old.cuts ≤ 2 ^ 63 }
+    ensures gives { IfOk result (λ printed. (n : ℕ) × JobGives (F.held folder.old) job.now printed.answer printed.text.items n × IsCounted n tally.old tally.new) }
     ensures stops { IfErr result (λ answer. Stops (F.faults folder.old) (F.faults folder.new) (IsRefused (F.held folder.old) job.now) answer) }
     ensures fetches { IfErr result (λ answer. answer ≡ Answer.ReadFault → Fetches job.now) }
     ensures counts { IfErr result (λ answer. CountsStopped (F.held folder.old) job.now tally.old tally.new answer) }

@@ -2,11 +2,8 @@ ghost use Rattle.std.specs.Prelude.{◌≡◌, ◌+◌, List, ℕ, Option, Some,
 ghost use Rattle.ofit_outside.specs.Folder.{Held};
 ghost use Rattle.ofit_num.specs.Sheet as num;
 ghost use Rattle.ofit_num.specs.Tally.{Counts};
-ghost use Rattle.ofit_study.specs.declared.pattern.Pattern.TheVariants.{NoPairs, Chain, Umbrella, Tree};
 ghost use Rattle.ofit_study.specs.declared.settings.Settings.{Settings};
 ghost use Rattle.ofit_study.specs.Study.{Study};
-ghost use Rattle.ofit_table.specs.PatternRead.{PatternRead};
-ghost use Rattle.ofit_fit.specs.Piece.{HasPooledForms};
 ghost use Rattle.ofit_words.specs.declared.job.Inputs.{Inputs};
 ghost use Rattle.ofit_words.specs.declared.job.Job.{Job};
 ghost use Rattle.ofit_words.specs.Words.{WordsRead};
@@ -32,15 +29,6 @@ pub fn accepted_inputs_are_answered()
 {
     words_have_one_reading();
 }
-
-/// Studies whose order is a pattern's, be it a chain, an umbrella, a tree or no order, are always fitted
-/// by pooling.
-pub fn patterns_are_pooled()
-    ensures none { (before study : Study) → PatternRead NoPairs before (Ok study) → HasPooledForms study }
-    ensures chain { (before study : Study) → PatternRead Chain before (Ok study) → HasPooledForms study }
-    ensures umbrella { (name : List ℕ) (before study : Study) → PatternRead (Umbrella name) before (Ok study) → HasPooledForms study }
-    ensures tree { (name : List ℕ) (before study : Study) → PatternRead (Tree name) before (Ok study) → HasPooledForms study }
-{}
 
 /// The study and the sheet that a told folder's files give are given in one way: one study or sheet, or one
 /// first refusal.

@@ -11,7 +11,7 @@ mod top;
 mod verify;
 
 pub use laws::{
-    accepted_inputs_are_answered, inputs_are_given_in_one_way, patterns_are_pooled,
+    accepted_inputs_are_answered, inputs_are_given_in_one_way,
     runs_end_in_one_way,
 };
 pub use ofit_answer::{Answer, Refusal, Which, status};

@@ -18,7 +18,8 @@ fn do_words<F: Folder, O: Sink>(
     out: &mut O,
     tally: &mut Tally,
 ) -> Answer
-    requires { tally.old.fits ≤ 2 ^ 63 }
+    requires room { tally.old.fits ≤ 2 ^ 63 }
+    requires room_for_cuts { tally.old.cuts ≤ 2 ^ 63 }
     ensures writes { Writes (texts words.now) (F.held folder.old) (O.written out.old) (O.written out.new) tally.old tally.new result }
     ensures reads { CountsRead (F.faults folder.old) (F.faults folder.new) result }
     ensures puts { CountsWrite (O.faults out.old) (O.faults out.new) result }
@@ -53,7 +54,8 @@ pub fn run<F: Folder, O: Sink, E: Sink>(
     err: &mut E,
     tally: &mut Tally,
 ) -> Answer
-    requires { tally.old.fits ≤ 2 ^ 63 }
+    requires room { tally.old.fits ≤ 2 ^ 63 }
+    requires room_for_cuts { tally.old.cuts ≤ 2 ^ 63 }
     ensures writes { Writes (texts words.now) (F.held folder.old) (O.written out.old) (O.written out.new) tally.old tally.new result }
     ensures reads { CountsRead (F.faults folder.old) (F.faults folder.new) result }
     ensures puts { CountsWrite (O.faults out.old) (O.faults out.new) result }
