@@ -150,6 +150,82 @@ C,D
 -- run 0 0 0 verify d s order=file:o places=0
 passes"#;
 
+const BOUNDS: &str = r#"
+-- case values are cut off at the bounds
+-- file d
+group,value,weight
+A,1,1
+B,3,1
+C,2,1
+-- run 0 1 0 fit d lo=2 places=0
+ofit-sheet,2,squares,0
+bounds,2,none,-
+size,3,3,-
+value,A,2,1
+value,B,5,2
+value,C,5,2
+flow,B,C,1
+end,-,-,-
+-- keep s
+-- run 0 0 0 verify d s lo=2 places=0
+passes
+-- any 0 1 0 fit d hi=2 places=0
+-- keep s
+-- run 0 0 0 verify d s hi=2 places=0
+passes
+-- any 0 1 0 fit d lo=2 hi=2 places=0 loss=median
+-- keep s
+-- run 0 0 0 verify d s lo=2 hi=2 places=0 loss=median
+passes
+-- case bounds are not applied before the fit
+-- file d
+group,value
+A,10
+B,-10
+-- file s
+ofit-sheet,1,squares,0
+bounds,2,none,-
+value,A,6,1
+value,B,6,1
+flow,A,B,4
+end,-,-,-
+-- run 1 0 0 verify d s lo=2 places=0
+fails balance B
+-- any 0 1 0 fit d lo=2 places=0
+-- keep s
+-- run 0 0 0 verify d s lo=2 places=0
+passes
+-- case a diamond and a cycle within bounds
+-- file d
+group,value
+A,1
+B,5
+C,0
+D,3
+-- file o
+low,high
+A,B
+A,C
+B,D
+C,D
+-- any 0 1 1 fit d order=file:o lo=1 hi=3 places=0
+-- keep s
+-- run 0 0 0 verify d s order=file:o lo=1 hi=3 places=0
+passes
+-- file o
+low,high
+A,B
+B,A
+-- any 0 3 1 fit d order=file:o lo=1 hi=3 places=0 loss=median
+-- keep s
+-- run 0 0 0 verify d s order=file:o lo=1 hi=3 places=0 loss=median
+passes"#;
+
+#[test]
+fn bounds_are_kept(rt: HostRuntime) -> Result<(), Fail> {
+    rows_hold(&rt, rt.alloc(), BOUNDS)
+}
+
 #[test]
 fn diamonds_are_fitted(rt: HostRuntime) -> Result<(), Fail> {
     rows_hold(&rt, rt.alloc(), DIAMONDS)

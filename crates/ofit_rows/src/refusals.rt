@@ -110,9 +110,6 @@ C,2,1
 -- run 3 0 0 report d
 -- err
 ofit: not built
--- run 3 0 0 fit d lo=1
--- err
-ofit: not built
 -- run 3 0 0 session d s
 -- err
 ofit: not built
