@@ -1,0 +1,13 @@
+pub mod SameOrder
+pub mod Places
+pub mod Results
+pub mod Among
+pub mod Costs
+pub mod Products
+pub mod Distances
+pub mod Members
+pub mod Tightness
+pub mod Means
+pub mod Ready
+pub mod Reported
+pub mod Listed

@@ -1,0 +1,24 @@
+use Rattle.std.proofs.Common.{◌≡◌, arith, to_z, of_z}
+use Rattle.std.proofs.lemmas.Int.{ints}
+use Rattle.std.specs.Int.{w128}
+use Rattle.std.specs.Prelude.{pos, ◌*ℤ◌, ◌-ℤ◌}
+use Rattle.ofit_num.proofs.Gap.{square-nonneg}
+use Rattle.ofit_report.proofs.Products.{times_is, reduces_as}
+use Rattle.ofit_report.proofs.cost.cost_at_mean.Goals as goal
+
+pub lowest-requires-clause-num : goal.lowest-requires-clause-num
+lowest-requires-clause-num c =
+    let all = c.args.all in
+    let weight = to_z w128 (of_z w128 c.from-weight.result) in
+    let whole : c.product-whole.result ≡ all.squares *ℤ pos all.weight = times_is _ (to_z w128 (of_z w128 all.squares)) weight all.squares (pos all.weight) c.product-whole.ensures.exact (omega (arith, ints)) (omega (arith, ints, c.from-weight.ensures)) in
+    let part : c.product-part.result ≡ all.sum *ℤ all.sum = times_is _ (to_z w128 (of_z w128 all.sum)) (to_z w128 (of_z w128 all.sum)) all.sum all.sum c.product-part.ensures.exact (omega (arith, ints)) (omega (arith, ints)) in
+    omega (arith, ints, whole, part, c.requires.spread, square-nonneg all.sum, c.product-whole.ensures.most)
+
+pub returns-clause-reduced : goal.returns-clause-reduced
+returns-clause-reduced c =
+    let all = c.args.all in
+    let weight = to_z w128 (of_z w128 c.from-weight.result) in
+    let whole : c.product-whole.result ≡ all.squares *ℤ pos all.weight = times_is _ (to_z w128 (of_z w128 all.squares)) weight all.squares (pos all.weight) c.product-whole.ensures.exact (omega (arith, ints)) (omega (arith, ints, c.from-weight.ensures)) in
+    let part : c.product-part.result ≡ all.sum *ℤ all.sum = times_is _ (to_z w128 (of_z w128 all.sum)) (to_z w128 (of_z w128 all.sum)) all.sum all.sum c.product-part.ensures.exact (omega (arith, ints)) (omega (arith, ints)) in
+    reduces_as (to_z w128 (of_z w128 (to_z w128 (of_z w128 c.product-whole.result) -ℤ to_z w128 (of_z w128 c.product-part.result)))) weight (all.squares *ℤ pos all.weight -ℤ all.sum *ℤ all.sum) (pos all.weight) _ c.lowest.ensures.reduced
+    (omega (arith, ints, whole, part, c.requires.spread, square-nonneg all.sum, c.product-whole.ensures.most)) (omega (arith, ints, c.from-weight.ensures))

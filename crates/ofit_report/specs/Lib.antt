@@ -1,0 +1,4 @@
+pub mod Tight
+pub mod Blocks
+pub mod Cost
+pub mod ReportText

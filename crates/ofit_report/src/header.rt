@@ -1,0 +1,76 @@
+ghost use Rattle.std.specs.Prelude.{◌≡◌, ◌++◌, OnOk, decimal};
+ghost use Rattle.std.specs.Fmt.{signed_decimal};
+ghost use Rattle.ofit_records.specs.Written.{record_text};
+ghost use Rattle.ofit_report.specs.ReportText.{loss_text, bound_text, header_fields, size_fields};
+
+use itoa::Buffer;
+use ofit_records::RecordWriter;
+use ofit_study::{LossKind, Settings, Study};
+use std::alloc::AllocError;
+
+/// The name of a loss.
+fn loss_name(loss: LossKind) -> &'static [u8]
+    ensures { result.now ≡ loss_text loss }
+{
+    match loss {
+        LossKind::Squares => b"squares",
+        LossKind::Median => b"median",
+    }
+}
+
+/// The text of a bound.
+fn bound_name(bound: Option<i64>, buffer: &mut Buffer) -> &[u8]
+    ensures { result.now ≡ bound_text bound }
+{
+    match bound {
+        None => b"none",
+        Some(units) => buffer.format(units).as_bytes(),
+    }
+}
+
+/// Writes record 1: the loss, the places and the bounds.
+pub(crate) fn write_header(writer: &mut RecordWriter, settings: &Settings) -> Result<(), AllocError>
+    ensures { OnOk result (writer.new ≡ writer.old ++ record_text (header_fields settings.now)) }
+{
+    let mut places = Buffer::new();
+    let mut lo = Buffer::new();
+    let mut hi = Buffer::new();
+    let fields: [&[u8]; 8] = [
+        b"ofit-report",
+        b"1",
+        loss_name(settings.loss),
+        places.format(settings.places).as_bytes(),
+        bound_name(settings.lo, &mut lo),
+        bound_name(settings.hi, &mut hi),
+        b"-",
+        b"-",
+    ];
+    writer.add_record(&fields)
+}
+
+/// Writes how many groups, rows, pairs, components and blocks there are.
+pub(crate) fn write_size(
+    writer: &mut RecordWriter,
+    study: &Study,
+    components: u32,
+    blocks: u32,
+) -> Result<(), AllocError>
+    ensures { OnOk result (writer.new ≡ writer.old ++ record_text (size_fields study.now components blocks)) }
+{
+    let mut groups = Buffer::new();
+    let mut rows = Buffer::new();
+    let mut pairs = Buffer::new();
+    let mut component_count = Buffer::new();
+    let mut block_count = Buffer::new();
+    let fields: [&[u8]; 8] = [
+        b"size",
+        groups.format(study.group_count()).as_bytes(),
+        rows.format(study.row_count()).as_bytes(),
+        pairs.format(study.pair_count()).as_bytes(),
+        component_count.format(components).as_bytes(),
+        block_count.format(blocks).as_bytes(),
+        b"-",
+        b"-",
+    ];
+    writer.add_record(&fields)
+}

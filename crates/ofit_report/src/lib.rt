@@ -1,0 +1,15 @@
+//! Reports of fits: the text that analysts read, with values as decimals, blocks and what each block costs.
+//!
+//! [`blocks`] numbers the blocks of a fit, the largest sets of groups of equal value that pairs join.
+//! [`write_report`] writes the report of a study with the values of an optimal fit.
+#![tactic(auto)]
+
+mod block;
+mod cost;
+mod header;
+mod records;
+mod report;
+mod rows;
+
+pub use block::blocks;
+pub use report::write_report;
