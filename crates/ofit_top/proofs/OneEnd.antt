@@ -20,7 +20,7 @@ use Rattle.ofit_answer.specs.declared.answer.Answer.TheVariants.{Done, Fails, Wo
 use Rattle.ofit_answer.specs.declared.answer.Refusal.{Refusal}
 use Rattle.ofit_answer.specs.declared.answer.Refusal.TheVariants.{NotBuilt}
 use Rattle.ofit_input.specs.Given.{StudyGives, SheetGives}
-use Rattle.ofit_top.specs.Jobs.{IsFitted, IsVerified, IsSheetRefused, IsRefused, IsDone, HasFailed}
+use Rattle.ofit_top.specs.Jobs.{IsOfStudy, IsFitOf, IsReportOf, IsVerified, IsSheetRefused, IsRefused, IsDone, HasFailed}
 use Rattle.ofit_top.specs.Verdicts.{answer_to}
 use Rattle.ofit_top.proofs.Results.{ok_same, err_same, ok_apart}
 
@@ -69,11 +69,12 @@ JobEnds h job ReadFault n = ⊥
 JobEnds h job WriteFault n = ⊥
 JobEnds h job Memory n = ⊥
 
--- a fit is fitted or refused,
-abbrev FitEnds : Held → Inputs → Answer → ℕ → Type 0
-FitEnds h inputs a n = ((text : List ℕ) × (a ≡ Done) × IsFitted (Some h) inputs text n) ⊎ ((refusal : Refusal) × (a ≡ Refused refusal) × (n ≡ 0) × StudyGives (Some h) inputs (Err refusal))
+-- what is printed of a study is printed or refused,
+abbrev StudyEnds : (Study → List ℕ → Type 0) → Held → Inputs → Answer → ℕ → Type 0
+StudyEnds IsText h inputs a n =
+    ((text : List ℕ) × (a ≡ Done) × IsOfStudy IsText (Some h) inputs text n) ⊎ ((refusal : Refusal) × (a ≡ Refused refusal) × (n ≡ 0) × StudyGives (Some h) inputs (Err refusal))
 
-fit_ends : (h : Held) (inputs : Inputs) (a : Answer) (n : ℕ) → JobEnds h (Fit inputs) a n → FitEnds h inputs a n
+fit_ends : (h : Held) (inputs : Inputs) (a : Answer) (n : ℕ) → JobEnds h (Fit inputs) a n → StudyEnds IsFitOf h inputs a n
 fit_ends h inputs Done n (text, x) = inl (text, refl, x)
 fit_ends h inputs (Refused refusal) n (x, e) = inr (refusal, refl, e, x)
 fit_ends h inputs (Fails said) n (text, x) = absurd x
@@ -81,6 +82,15 @@ fit_ends h inputs (Words fault) n x = absurd x
 fit_ends h inputs ReadFault n x = absurd x
 fit_ends h inputs WriteFault n x = absurd x
 fit_ends h inputs Memory n x = absurd x
+
+report_ends : (h : Held) (inputs : Inputs) (a : Answer) (n : ℕ) → JobEnds h (Report inputs) a n → StudyEnds IsReportOf h inputs a n
+report_ends h inputs Done n (text, x) = inl (text, refl, x)
+report_ends h inputs (Refused refusal) n (x, e) = inr (refusal, refl, e, x)
+report_ends h inputs (Fails said) n (text, x) = absurd x
+report_ends h inputs (Words fault) n x = absurd x
+report_ends h inputs ReadFault n x = absurd x
+report_ends h inputs WriteFault n x = absurd x
+report_ends h inputs Memory n x = absurd x
 
 -- a sheet has a verdict or is refused,
 abbrev VerifyEnds : Held → Inputs → List ℕ → Answer → ℕ → Type 0
@@ -137,14 +147,14 @@ module _ (h : Held) (studies : StudiesAreOne h) (sheets : SheetsAreGivenOnce h) 
   no_study : (inputs : Inputs) (s : Study) (r : Refusal) → StudyGives (Some h) inputs (Ok s) → StudyGives (Some h) inputs (Err r) → ⊥
   no_study inputs s r x y = ok_apart s r (studies inputs (Ok s) (Err r) x y)
 
-  one_fit : (inputs : Inputs) (a b : Answer) (n m : ℕ) → FitEnds h inputs a n → FitEnds h inputs b m → (a ≡ b) × (n ≡ m)
-  one_fit inputs a b n m (inl (text, e, x)) (inl (other, d, y)) = (
+  one_text : (IsText : Study → List ℕ → Type 0) (inputs : Inputs) (a b : Answer) (n m : ℕ) → StudyEnds IsText h inputs a n → StudyEnds IsText h inputs b m → (a ≡ b) × (n ≡ m)
+  one_text IsText inputs a b n m (inl (text, e, x)) (inl (other, d, y)) = (
     e ∙ sym d,
     one_count (problem_stated x.study) n m x.counted (subst (λ (s : Study). HasComponentCount (problem_stated s) m) (same_study inputs y.study x.study y.given x.given) y.counted),
   )
-  one_fit inputs a b n m (inl (text, e, x)) (inr (t, d, v, y)) = absurd (no_study inputs x.study t x.given y)
-  one_fit inputs a b n m (inr (r, e, u, x)) (inl (text, d, y)) = absurd (no_study inputs y.study r y.given x)
-  one_fit inputs a b n m (inr (r, e, u, x)) (inr (t, d, v, y)) = (e ∙ ap Refused (same_refusal inputs r t x y) ∙ sym d, u ∙ sym v)
+  one_text IsText inputs a b n m (inl (text, e, x)) (inr (t, d, v, y)) = absurd (no_study inputs x.study t x.given y)
+  one_text IsText inputs a b n m (inr (r, e, u, x)) (inl (text, d, y)) = absurd (no_study inputs y.study r y.given x)
+  one_text IsText inputs a b n m (inr (r, e, u, x)) (inr (t, d, v, y)) = (e ∙ ap Refused (same_refusal inputs r t x y) ∙ sym d, u ∙ sym v)
 
   sheet_of : (inputs : Inputs) (name : List ℕ) (s t : Study) (r : Result (num.Sheet Settings) Refusal) → StudyGives (Some h) inputs (Ok s) → StudyGives (Some h) inputs (Ok t) → SheetGives (Some h) name s r → SheetGives (Some h) name t r
   sheet_of inputs name s t r x y = subst (λ (study : Study). SheetGives (Some h) name study r) (same_study inputs s t x y)
@@ -187,9 +197,9 @@ module _ (h : Held) (studies : StudiesAreOne h) (sheets : SheetsAreGivenOnce h) 
   one_verification inputs name a b n m (inr (r, e, u, x)) (inr (o, d, t, y)) = (e ∙ ap Refused (one_sheet_refusal inputs name r o x y) ∙ sym d, u ∙ sym t)
 
   pub one_end : (job : Job) (a b : Answer) (n m : ℕ) → JobEnds h job a n → JobEnds h job b m → (a ≡ b) × (n ≡ m)
-  one_end (Fit inputs) a b n m x y = one_fit inputs a b n m (fit_ends h inputs a n x) (fit_ends h inputs b m y)
+  one_end (Fit inputs) a b n m x y = one_text IsFitOf inputs a b n m (fit_ends h inputs a n x) (fit_ends h inputs b m y)
   one_end (Verify inputs name) a b n m x y = one_verification inputs name a b n m (verify_ends h inputs name a n x) (verify_ends h inputs name b m y)
-  one_end (Report inputs) a b n m x y = unbuilt h (Report inputs) (λ text k d. d) (λ said text k f. f) (λ r e. e) a b n m x y
+  one_end (Report inputs) a b n m x y = one_text IsReportOf inputs a b n m (report_ends h inputs a n x) (report_ends h inputs b m y)
   one_end (Session inputs script) a b n m x y = unbuilt h (Session inputs script) (λ text k d. d) (λ said text k f. f) (λ r e. e) a b n m x y
   one_end (Unimodal table places) a b n m x y = unbuilt h (Unimodal table places) (λ text k d. d) (λ said text k f. f) (λ r e. e) a b n m x y
   one_end (VerifyUnimodal table sheet places) a b n m x y = unbuilt h (VerifyUnimodal table sheet places) (λ text k d. d) (λ said text k f. f) (λ r e. e) a b n m x y

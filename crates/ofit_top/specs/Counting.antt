@@ -5,7 +5,7 @@ use Rattle.ofit_num.specs.Tally.{Counts}
 use Rattle.ofit_study.specs.Study.{Study, problem_stated}
 use Rattle.ofit_words.specs.declared.job.Inputs.{Inputs}
 use Rattle.ofit_words.specs.declared.job.Job.{Job}
-use Rattle.ofit_words.specs.declared.job.Job.TheVariants.{Fit}
+use Rattle.ofit_words.specs.declared.job.Job.TheVariants.{Fit, Report, Verify, Session, Unimodal, VerifyUnimodal, Levels, Sample}
 use Rattle.ofit_fit.specs.Counted.{HasComponentCount}
 use Rattle.ofit_answer.specs.declared.answer.Answer.{Answer}
 use Rattle.ofit_answer.specs.declared.answer.Answer.TheVariants.{Done, Fails, Words, Refused, ReadFault, WriteFault, Memory}
@@ -23,11 +23,22 @@ pub record CountsWithin (s : Study) (before after : Counts) : Type 0 where
   pub counted : IsCounted fits before after
   pub most : (n : ℕ) → HasComponentCount (problem_stated s) n → fits ≤ n
 
+-- the job fits the study of these inputs
+abbrev pub FitsStudy : Job → Inputs → Type 0
+FitsStudy (Fit inputs) of = inputs ≡ of
+FitsStudy (Report inputs) of = inputs ≡ of
+FitsStudy (Verify inputs name) of = ⊥
+FitsStudy (Session inputs script) of = ⊥
+FitsStudy (Unimodal table places) of = ⊥
+FitsStudy (VerifyUnimodal table sheet places) of = ⊥
+FitsStudy (Levels k) of = ⊥
+FitsStudy (Sample sample) of = ⊥
+
 -- a fit that memory ended counts at most the components of its study, and every other job counts nothing
 pub record HasBegun (held : Option Held) (job : Job) (before after : Counts) : Type 0 where
   pub inputs : Inputs
   pub study : Study
-  pub asked : job ≡ Fit inputs
+  pub asked : FitsStudy job inputs
   pub given : StudyGives held inputs (Ok study)
   pub within : CountsWithin study before after
 

@@ -1,6 +1,7 @@
 -- What a job answers, and the text and the count of fits that go with it, where neither folder nor sinks fail.
-use Rattle.std.specs.Prelude.{◌≡◌, ◌⊎◌, ⊤, ℕ, List, Option, Ok, Err, IsSome}
+use Rattle.std.specs.Prelude.{◌≡◌, ◌⊎◌, ⊤, ℕ, List, All, Option, Ok, Err, IsSome}
 use Rattle.ofit_outside.specs.Folder.{Held}
+use Rattle.ofit_num.specs.Fraction.{Fraction, IsLowest}
 use Rattle.ofit_num.specs.Fit.{BestValues, LeastBestValues}
 use Rattle.ofit_num.specs.Sheet as num
 use Rattle.ofit_num.specs.Verdict.{IsVerdict, Passes}
@@ -11,6 +12,7 @@ use Rattle.ofit_words.specs.declared.job.Inputs.{Inputs}
 use Rattle.ofit_words.specs.declared.job.Job.{Job}
 use Rattle.ofit_words.specs.declared.job.Job.TheVariants.{Fit, Report, Verify, Session, Unimodal, VerifyUnimodal, Levels, Sample}
 use Rattle.ofit_fit.specs.Counted.{HasComponentCount}
+use Rattle.ofit_report.specs.ReportText.{ReportText}
 use Rattle.ofit_sheet.specs.SheetText.{sheet_text}
 use Rattle.ofit_sheet.specs.SheetRead.{SheetRead}
 use Rattle.ofit_check.specs.declared.verdict.Verdict.{Verdict}
@@ -32,12 +34,27 @@ pub record IsFitOf (s : Study) (text : List ℕ) : Type 0 where
   pub passes : Passes (meaning_of s.settings.loss) (problem_stated s) s.settings sheet
   pub least_best : LeastBestValues (meaning_of s.settings.loss) (problem_stated s) (num.sheet_values sheet)
 
--- the fit of these inputs, and one count for each component of its study
-pub record IsFitted (held : Option Held) (inputs : Inputs) (text : List ℕ) (fits : ℕ) : Type 0 where
+-- The text is the report of the study with its least best values, in lowest terms.
+pub record IsReportOf (s : Study) (text : List ℕ) : Type 0 where
+  pub values : List Fraction
+  pub least_best : LeastBestValues (meaning_of s.settings.loss) (problem_stated s) values
+  pub lowest : All IsLowest values
+  pub printed : ReportText s values text
+
+-- what is printed of the study of these inputs, and one count for each component of it
+pub record IsOfStudy (IsText : Study → List ℕ → Type 0) (held : Option Held) (inputs : Inputs) (text : List ℕ) (fits : ℕ) : Type 0 where
   pub study : Study
   pub given : StudyGives held inputs (Ok study)
-  pub fit : IsFitOf study text
+  pub made : IsText study text
   pub counted : HasComponentCount (problem_stated study) fits
+
+-- the sheet of the fit of these inputs
+abbrev pub IsFitted : Option Held → Inputs → List ℕ → ℕ → Type 0
+IsFitted = IsOfStudy IsFitOf
+
+-- and its report
+abbrev pub IsReported : Option Held → Inputs → List ℕ → ℕ → Type 0
+IsReported = IsOfStudy IsReportOf
 
 -- the verdict on the sheet of this name, and its line; where the sheet passes, its values are best
 pub record IsVerified (held : Option Held) (inputs : Inputs) (name : List ℕ) (said : Verdict) (text : List ℕ) : Type 0 where
@@ -53,11 +70,11 @@ pub record IsVerified (held : Option Held) (inputs : Inputs) (name : List ℕ) (
 abbrev pub IsSheetRefused : Option Held → Inputs → List ℕ → Refusal → Type 0
 IsSheetRefused held inputs name refusal = StudyGives held inputs (Err refusal) ⊎ ((study : Study) × StudyGives held inputs (Ok study) × SheetGives held name study (Err refusal))
 
--- why a job is refused: the study of a fit isn't given, a sheet or its study isn't, and the other commands aren't built
+-- why a job is refused: the study of a fit or a report isn't given, a sheet or its study isn't, and the other commands aren't built
 abbrev pub IsRefused : Option Held → Job → Refusal → Type 0
 IsRefused held (Fit inputs) refusal = StudyGives held inputs (Err refusal)
 IsRefused held (Verify inputs name) refusal = IsSheetRefused held inputs name refusal
-IsRefused held (Report inputs) refusal = refusal ≡ NotBuilt
+IsRefused held (Report inputs) refusal = StudyGives held inputs (Err refusal)
 IsRefused held (Session inputs script) refusal = refusal ≡ NotBuilt
 IsRefused held (Unimodal table places) refusal = refusal ≡ NotBuilt
 IsRefused held (VerifyUnimodal table sheet places) refusal = refusal ≡ NotBuilt
@@ -67,7 +84,7 @@ IsRefused held (Sample sample) refusal = refusal ≡ NotBuilt
 abbrev pub IsDone : Option Held → Job → List ℕ → ℕ → Type 0
 IsDone held (Fit inputs) text fits = IsFitted held inputs text fits
 IsDone held (Verify inputs name) text fits = IsVerified held inputs name verdicts.Passes text × (fits ≡ 0)
-IsDone held (Report inputs) text fits = ⊥
+IsDone held (Report inputs) text fits = IsReported held inputs text fits
 IsDone held (Session inputs script) text fits = ⊥
 IsDone held (Unimodal table places) text fits = ⊥
 IsDone held (VerifyUnimodal table sheet places) text fits = ⊥
@@ -94,11 +111,11 @@ JobGives held job answer.ReadFault text fits = ⊥
 JobGives held job answer.WriteFault text fits = ⊥
 JobGives held job answer.Memory text fits = ⊥
 
--- the job fetches files: each fit and each verification
+-- the job fetches files: each fit, report and verification
 abbrev pub Fetches : Job → Type 0
 Fetches (Fit inputs) = ⊤
 Fetches (Verify inputs name) = ⊤
-Fetches (Report inputs) = ⊥
+Fetches (Report inputs) = ⊤
 Fetches (Session inputs script) = ⊥
 Fetches (Unimodal table places) = ⊥
 Fetches (VerifyUnimodal table sheet places) = ⊥

@@ -6,6 +6,7 @@ ghost use Rattle.ofit_top.specs.Counting.{IsCounted, CountsStopped};
 
 use crate::fit::fit_text;
 use crate::printed::Printed;
+use crate::report::report_text;
 use crate::verify::verify_text;
 use ofit_answer::{Answer, Refusal};
 use ofit_num::Tally;
@@ -39,9 +40,15 @@ pub(crate) fn do_job<F: Folder>(
             }),
             Err(answer) => Err(answer),
         },
+        Job::Report(inputs) => match report_text(alloc, folder, inputs, tally) {
+            Ok(text) => Ok(Printed {
+                answer: Answer::Done,
+                text,
+            }),
+            Err(answer) => Err(answer),
+        },
         Job::Verify(inputs, sheet) => verify_text(alloc, folder, inputs, sheet.as_str()),
-        Job::Report(_)
-        | Job::Session(_, _)
+        Job::Session(_, _)
         | Job::Unimodal(_, _)
         | Job::VerifyUnimodal(_, _, _)
         | Job::Levels(_)
