@@ -2,8 +2,8 @@ use ofit_num::{Tally, read_whole};
 use ofit_outside::{MemFolder, MemSink};
 use ofit_top::{run, status};
 use std::alloc::{AllocError, Global};
-use std::rt::Files;
 use std::process::Abort;
+use std::rt::Files;
 use std::test::Fail;
 
 const ROOM: u64 = 200_000;

@@ -107,9 +107,6 @@ group,value,weight
 A,1,1
 B,3,1
 C,2,1
--- run 3 0 0 report d
--- err
-ofit: not built
 -- run 3 0 0 session d s
 -- err
 ofit: not built
