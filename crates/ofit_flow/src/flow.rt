@@ -63,25 +63,7 @@ pub(crate) fn flow_by_phases(
 {
     let mut flow = no_flow(alloc, edges)?;
     let mut walk = Walk::new(alloc, search.levels.len())?;
-    build_levels(
-        edges,
-        rows,
-        flow.amounts.as_slice(),
-        search,
-        source,
-        sink,
-        phases,
-    )?;
-    while search.levels[sink as usize].is_some() {
-        block(
-            edges,
-            rows,
-            &mut flow,
-            &mut search.levels,
-            &mut walk,
-            source,
-            sink,
-        )?;
+    loop {
         build_levels(
             edges,
             rows,
@@ -91,6 +73,17 @@ pub(crate) fn flow_by_phases(
             sink,
             phases,
         )?;
+        if search.levels[sink as usize].is_none() {
+            return Ok(flow);
+        }
+        block(
+            edges,
+            rows,
+            &mut flow,
+            &mut search.levels,
+            &mut walk,
+            source,
+            sink,
+        )?;
     }
-    Ok(flow)
 }
