@@ -15,7 +15,8 @@ use Rattle.ofit_num.proofs.Order.{zero_mul_ℤ, assoc_swap, cancel_ℤ, cancel_l
 use Rattle.ofit_num.proofs.TableScaling.{first_power}
 use Rattle.ofit_loss.proofs.SquaresLeast.{weighs}
 use Rattle.ofit_loss.specs.Squares.{weighted_sum}
-use Rattle.ofit_report.specs.Cost.{weighted_squares, IsMean, IsWholeValue, IsMeanOrWhole}
+use Rattle.ofit_report.specs.BlockMeans.{IsMean, IsWholeValue, IsMeanOrWhole}
+use Rattle.ofit_report.specs.Cost.{weighted_squares}
 
 abbrev pub once : Factors
 once = record { above = 1; below = 1 }
