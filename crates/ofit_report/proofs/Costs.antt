@@ -46,7 +46,7 @@ one_cost r n d =
     alone n = omega arith
 
     times : (a b : ℕ) → pos (a * b) ≡ pos a *ℤ pos b
-    times a b = simp (pos-gap, gap-mul) (gap-same _ _ _ _ (omega arith))
+    times a b = simp pos-gap (gap-same _ _ _ _ (omega arith))
 
 spread_row : (w d : ℕ) (y n : ℤ) → pos w *ℤ ((pos d *ℤ y -ℤ n) *ℤ (pos d *ℤ y -ℤ n)) ≡ (((y *ℤ y) *ℤ pos w) *ℤ pos (d * d) -ℤ pos 2 *ℤ (n *ℤ (y *ℤ pos w)) *ℤ pos d) +ℤ (n *ℤ n) *ℤ pos w
 spread_row w d y n = rw (is_gap y, is_gap n) (simp (pos-gap, gap-mul, gap-sub, gap-add) (gap-same _ _ _ _ (omega arith)))

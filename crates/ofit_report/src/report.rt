@@ -127,7 +127,11 @@ fn count_components(alloc: Global, study: &Study) -> Result<u32, AllocError>
 }
 
 /// The report of a study with these values.
-fn report_text(alloc: Global, study: &Study, values: &[Frac]) -> Result<Vec<u8>, AllocError>
+pub(crate) fn report_text(
+    alloc: Global,
+    study: &Study,
+    values: &[Frac],
+) -> Result<Vec<u8>, AllocError>
     requires count { length values.now ≡ length (names_of study.now) }
     requires means { HasBlockMeans study.now values.now }
     ensures { IfOk result (λ text. ReportText study.now values.now text.items) }
