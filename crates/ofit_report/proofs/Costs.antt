@@ -15,7 +15,8 @@ use Rattle.ofit_num.proofs.Order.{zero_mul_ℤ, assoc_swap, cancel_ℤ, cancel_l
 use Rattle.ofit_num.proofs.TableScaling.{first_power}
 use Rattle.ofit_loss.proofs.SquaresLeast.{weighs}
 use Rattle.ofit_loss.specs.Squares.{weighted_sum}
-use Rattle.ofit_report.specs.Cost.{weighted_squares, IsMean, IsWholeValue, IsMeanOrWhole}
+use Rattle.ofit_report.specs.BlockMeans.{IsMean, IsWholeValue, IsMeanOrWhole}
+use Rattle.ofit_report.specs.Cost.{weighted_squares}
 
 abbrev pub once : Factors
 once = record { above = 1; below = 1 }
@@ -45,7 +46,7 @@ one_cost r n d =
     alone n = omega arith
 
     times : (a b : ℕ) → pos (a * b) ≡ pos a *ℤ pos b
-    times a b = simp (pos-gap, gap-mul) (gap-same _ _ _ _ (omega arith))
+    times a b = simp pos-gap (gap-same _ _ _ _ (omega arith))
 
 spread_row : (w d : ℕ) (y n : ℤ) → pos w *ℤ ((pos d *ℤ y -ℤ n) *ℤ (pos d *ℤ y -ℤ n)) ≡ (((y *ℤ y) *ℤ pos w) *ℤ pos (d * d) -ℤ pos 2 *ℤ (n *ℤ (y *ℤ pos w)) *ℤ pos d) +ℤ (n *ℤ n) *ℤ pos w
 spread_row w d y n = rw (is_gap y, is_gap n) (simp (pos-gap, gap-mul, gap-sub, gap-add) (gap-same _ _ _ _ (omega arith)))

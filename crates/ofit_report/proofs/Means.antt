@@ -33,7 +33,8 @@ use Rattle.ofit_loss.specs.Squares.{weighted_sum}
 use Rattle.ofit_loss.proofs.SquaresLeast.{balance}
 use Rattle.ofit_report.specs.Tight.{value_at, is_tight, tight_among}
 use Rattle.ofit_report.specs.Blocks.{block_order}
-use Rattle.ofit_report.specs.Cost.{rows_among, IsMean, IsWholeValue, IsMeanOrWhole}
+use Rattle.ofit_report.specs.BlockMeans.{IsMean, IsWholeValue, IsMeanOrWhole}
+use Rattle.ofit_report.specs.Cost.{rows_among}
 use Rattle.ofit_report.proofs.Members.{member_sum, member_sum-has, member_sum-same}
 use Rattle.ofit_report.proofs.Places.{group_count, tight_within}
 use Rattle.ofit_report.proofs.Tightness.{contains_filter, own_value, same_tight, connected_same}

@@ -11,8 +11,9 @@ use Rattle.ofit_study.specs.declared.settings.LossKind.TheVariants.{Squares}
 use Rattle.ofit_study.specs.Study.{Study, IsValid, names_of, groups_of, problem_stated, meaning_of}
 use Rattle.ofit_report.specs.Tight.{value_at}
 use Rattle.ofit_report.specs.Blocks.{IsBlockOf}
-use Rattle.ofit_report.specs.Cost.{rows_among, IsCost, IsMeanOrWhole}
-use Rattle.ofit_report.specs.ReportText.{block_value, block_fields, group_fields, name_at, IsBlockRecord, IsGroupRecord, IsRoundedDown}
+use Rattle.ofit_report.specs.BlockMeans.{IsMeanOrWhole, HasBlockMeans}
+use Rattle.ofit_report.specs.Cost.{block_value, rows_among, IsCost}
+use Rattle.ofit_report.specs.ReportText.{block_fields, group_fields, name_at, IsBlockRecord, IsGroupRecord, IsRoundedDown}
 use Rattle.ofit_report.proofs.Means.{mean_or_whole}
 use Rattle.ofit_report.proofs.Ready.{IsReady}
 
@@ -27,11 +28,16 @@ module _ (s : Study) (values : List Fraction) (k : ℕ) (members : List ℕ) (ro
     spells = ap (λ (rs : List Row). block_fields (k + 1) (length members) rs value cost) are_rows ∙ ap (λ (f : Fraction). block_fields (k + 1) (length members) (rows_among s members) f cost) is_value;
   }
 
-  pub block_mean : IsValid s → (loss : LossKind) → loss ≡ s.settings.loss → BestValues (meaning_of s.settings.loss) (problem_stated s) values → IsLowest value → loss ≡ Squares → IsMeanOrWhole rows value
-  block_mean v loss is_loss best lowest squared =
-      let mean : IsMeanOrWhole (rows_among s members) (block_value values members) = mean_or_whole s v values
-      (subst (λ (l : LossKind). BestValues (meaning_of l) (problem_stated s) values) (sym is_loss ∙ squared) best) k members ready.are ready.some (subst IsLowest is_value lowest) in
+  pub block_mean : HasBlockMeans s values → (loss : LossKind) → loss ≡ s.settings.loss → IsLowest value → loss ≡ Squares → IsMeanOrWhole rows value
+  block_mean means loss is_loss lowest squared =
+      let mean : IsMeanOrWhole (rows_among s members) (block_value values members) = means.means (sym is_loss ∙ squared) k members ready.are ready.some (subst IsLowest is_value lowest) in
       subst (λ (f : Fraction). IsMeanOrWhole rows f) (sym is_value) (subst (λ (rs : List Row). IsMeanOrWhole rs (block_value values members)) (sym are_rows) mean)
+
+-- best values have the blocks' means
+pub best_means : (s : Study) → IsValid s → (values : List Fraction) → BestValues (meaning_of s.settings.loss) (problem_stated s) values → HasBlockMeans s values
+best_means s v values best = record {
+  means = λ squared k members are some lowest. mean_or_whole s v values (subst (λ (l : LossKind). BestValues (meaning_of l) (problem_stated s) values) squared best) k members are some lowest;
+}
 
 -- the record of a group
 pub group_record : (s : Study) (values : List Fraction) (g : ℕ) (name : List ℕ) (rows : List Row) (block : ℕ) (value : Fraction) (rounded : List ℕ) (places : ℕ) → slice_get (names_of s) g ≡ Some name → slice_get (groups_of s) g ≡ Some rows

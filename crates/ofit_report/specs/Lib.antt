@@ -1,4 +1,5 @@
 pub mod Tight
 pub mod Blocks
 pub mod Cost
+pub mod BlockMeans
 pub mod ReportText

@@ -1,5 +1,5 @@
 -- The text of a report: header, size, a record for each group, a record for each block, and the end, of eight fields each.
-use Rattle.std.specs.Prelude.{◌≡◌, ◌+◌, ◌<◌, ◌^◌, ℕ, ℤ, List, [], ◌∷◌, ◌++◌, length, slice_index, slice_index_or, Option, Some, None, codes, decimal, pos, ◌+ℤ◌, ◌*ℤ◌, ◌≤ℤ◌, ◌<ℤ◌}
+use Rattle.std.specs.Prelude.{◌≡◌, ◌+◌, ◌<◌, ◌^◌, ℕ, ℤ, List, [], ◌∷◌, ◌++◌, length, slice_index_or, Option, Some, None, codes, decimal, pos, ◌+ℤ◌, ◌*ℤ◌, ◌≤ℤ◌, ◌<ℤ◌}
 use Rattle.std.specs.Fmt.{signed_decimal}
 use Rattle.ofit_num.specs.declared.row.Row.{Row}
 use Rattle.ofit_num.specs.DecimalText.{IsFixed}
@@ -13,7 +13,7 @@ use Rattle.ofit_study.specs.declared.settings.LossKind.TheVariants.{Squares, Med
 use Rattle.ofit_study.specs.Study.{Study, names_of, problem_stated, meaning_of}
 use Rattle.ofit_report.specs.Tight.{value_at}
 use Rattle.ofit_report.specs.Blocks.{order_of, block_order, IsBlockOf}
-use Rattle.ofit_report.specs.Cost.{rows_among, IsCost}
+use Rattle.ofit_report.specs.Cost.{rows_among, block_value, IsCost}
 
 abbrev pub loss_text : LossKind → List ℕ
 loss_text Squares = codes "squares"
@@ -63,10 +63,6 @@ pub record IsGroupRecord (s : Study) (values : List Fraction) (g : ℕ) (fields 
   pub rounded : List ℕ
   pub is_rounded : IsRoundedDown (value_at values g) s.settings.places rounded
   pub spells : fields ≡ group_fields (name_at s g) ((problem_stated s).rows g) block (value_at values g) rounded
-
--- the value of a block with these members, which is that of its first one
-abbrev pub block_value : List Fraction → List ℕ → Fraction
-block_value values members = value_at values (slice_index members 0)
 
 -- the record of a block, where k counts the blocks from 0
 pub record IsBlockRecord (s : Study) (values : List Fraction) (k : ℕ) (fields : List (List ℕ)) : Type 0 where

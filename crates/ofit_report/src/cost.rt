@@ -4,7 +4,8 @@ ghost use Rattle.ofit_num.specs.Loss.{residual, squares, median};
 ghost use Rattle.ofit_num.specs.Reduced.{Reduces};
 ghost use Rattle.ofit_study.specs.declared.settings.LossKind.TheVariants.{Squares};
 ghost use Rattle.ofit_study.specs.Study.{meaning_of};
-ghost use Rattle.ofit_report.specs.Cost.{IsCost, IsMeanOrWhole, distance};
+ghost use Rattle.ofit_report.specs.BlockMeans.{IsMeanOrWhole};
+ghost use Rattle.ofit_report.specs.Cost.{IsCost, distance};
 
 use crate::rows::{Sums, plus, square, sums_of};
 use ofit_num::{Frac, Row, lowest};

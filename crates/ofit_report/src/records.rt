@@ -19,11 +19,8 @@ pub(crate) fn rounded(alloc: Global, value: &Frac, places: u32) -> Result<Vec<u8
     ensures { IfOk result (λ text. IsRoundedDown value.now places text.items) }
 {
     let mut text = Vec::new(alloc);
-    append_decimal(
-        &mut text,
-        value.floor_scaled(MORE_PLACES),
-        places + MORE_PLACES,
-    )?;
+    let units = value.floor_scaled(MORE_PLACES);
+    append_decimal(&mut text, units, places + MORE_PLACES)?;
     Ok(text)
 }
 

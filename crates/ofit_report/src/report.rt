@@ -3,6 +3,7 @@ ghost use Rattle.ofit_num.specs.Fit.{BestValues};
 ghost use Rattle.ofit_order.specs.Component.{IsComponentCount, HasComponent};
 ghost use Rattle.ofit_records.specs.Written.{record_text, records_text};
 ghost use Rattle.ofit_study.specs.Study.{names_of, problem_stated, meaning_of};
+ghost use Rattle.ofit_report.specs.BlockMeans.{HasBlockMeans};
 ghost use Rattle.ofit_report.specs.Blocks.{order_of, block_order, IsSameOrder};
 ghost use Rattle.ofit_report.specs.ReportText.{IsGroupRecord, IsBlockRecord, AreRecords, ReportText};
 
@@ -72,7 +73,8 @@ fn report_block(
     order: &Order,
     block: u32,
 ) -> Result<(), AllocError>
-    requires best { BestValues (meaning_of study.now.settings.loss) (problem_stated study.now) values.now }
+    requires count { length values.now ≡ length (names_of study.now) }
+    requires means { HasBlockMeans study.now values.now }
     requires order { IsSameOrder order.now (block_order study.now values.now) }
     requires block { HasComponent order.now block }
     ensures { OnOk result ((fields : List (List ℕ)) × IsBlockRecord study.now values.now block fields × (writer.new ≡ writer.old ++ record_text fields)) }
@@ -103,7 +105,8 @@ fn report_blocks(
     order: &Order,
     blocks: u32,
 ) -> Result<(), AllocError>
-    requires best { BestValues (meaning_of study.now.settings.loss) (problem_stated study.now) values.now }
+    requires count { length values.now ≡ length (names_of study.now) }
+    requires means { HasBlockMeans study.now values.now }
     requires order { IsSameOrder order.now (block_order study.now values.now) }
     requires blocks { IsComponentCount order.now blocks }
     ensures { OnOk result ((records : List (List (List ℕ))) × AreRecords (IsBlockRecord study.now values.now) blocks records
@@ -123,14 +126,14 @@ fn count_components(alloc: Global, study: &Study) -> Result<u32, AllocError>
     Ok(order.component_count())
 }
 
-/// The report of a study with the values of an optimal fit, bounds included. O((n + m) log n + r) time
-/// and linear memory for n groups, m pairs and r rows.
-///
-/// A block's cost fits 128 bits: the sums of weights, weighted values and weighted squares of rows within
-/// their limits are at most 10^10, 10^19 and 10^28, and under squares an optimal fit gives each block the
-/// mean of its rows or a bound, which the proof of `report_block` takes from the values being best.
-pub fn write_report(alloc: Global, study: &Study, values: &[Frac]) -> Result<Vec<u8>, AllocError>
-    requires { BestValues (meaning_of study.now.settings.loss) (problem_stated study.now) values.now }
+/// The report of a study with these values.
+pub(crate) fn report_text(
+    alloc: Global,
+    study: &Study,
+    values: &[Frac],
+) -> Result<Vec<u8>, AllocError>
+    requires count { length values.now ≡ length (names_of study.now) }
+    requires means { HasBlockMeans study.now values.now }
     ensures { IfOk result (λ text. ReportText study.now values.now text.items) }
 {
     let order = order_of_blocks(alloc, study, values)?;
@@ -144,4 +147,18 @@ pub fn write_report(alloc: Global, study: &Study, values: &[Frac]) -> Result<Vec
     let end: [&[u8]; 8] = [b"end", b"-", b"-", b"-", b"-", b"-", b"-", b"-"];
     writer.add_record(&end)?;
     writer.into_text()
+}
+
+/// The report of a study with the values of an optimal fit, bounds included. O((n + m) log n + r) time
+/// and linear memory for n groups, m pairs and r rows.
+///
+/// A block's cost fits 128 bits. The sums of weights, weighted values and weighted squares of rows within
+/// their limits are at most 10^10, 10^19 and 10^28, and under squares an optimal fit gives each block the
+/// mean of its rows, or a bound: that is what this function's proof shows of values that are best.
+pub fn write_report(alloc: Global, study: &Study, values: &[Frac]) -> Result<Vec<u8>, AllocError>
+    requires { BestValues (meaning_of study.now.settings.loss) (problem_stated study.now) values.now }
+    ensures { IfOk result (λ text. ReportText study.now values.now text.items) }
+{
+    let _groups = study.group_count();
+    report_text(alloc, study, values)
 }

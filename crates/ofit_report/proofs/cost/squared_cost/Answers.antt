@@ -4,7 +4,7 @@ use Rattle.std.specs.Int.{w128}
 use Rattle.std.specs.Prelude.{pos, ◌*ℤ◌}
 use Rattle.ofit_num.specs.Limits.{total_weight}
 use Rattle.ofit_loss.specs.Squares.{weighted_sum}
-use Rattle.ofit_report.specs.Cost.{IsMean}
+use Rattle.ofit_report.specs.BlockMeans.{IsMean}
 use Rattle.ofit_report.proofs.Costs.{weight_some, mean_spread, mean_reduces, whole_small, whole_least, whole_reduces}
 use Rattle.ofit_report.proofs.Products.{times_is}
 use Rattle.ofit_report.proofs.cost.squared_cost.Goals as goal

@@ -37,7 +37,7 @@ bounds-values-members c =
     let values = c.args.values.now in
     let members = c.members-members.result.now in
     let here : IsReady s values c.args.block members = ready s c.group_count-groups.ensures.valid values c.args.order.now c.requires.order c.args.block c.requires.block members c.members-members.ensures.members in
-    let named : length values ≡ length (names_of s) = c.requires.best.count ∙ group_count s in
+    let named : length values ≡ length (names_of s) = c.requires.count in
     omega (arith, here.inside (slice_index members 0) (Contains-get_or members 0 0 here.some), named)
 
 pub cost_of-cost-requires-clause-limits : goal.cost_of-cost-requires-clause-limits
@@ -64,12 +64,12 @@ cost_of-cost-requires-clause-value c =
     let values = c.args.values.now in
     let members = c.members-members.result.now in
     let here : IsReady s values c.args.block members = ready s c.group_count-groups.ensures.valid values c.args.order.now c.requires.order c.args.block c.requires.block members c.members-members.ensures.members in
-    let named : length values ≡ length (names_of s) = c.requires.best.count ∙ group_count s in
+    let named : length values ≡ length (names_of s) = c.requires.count in
     let inside : slice_index members 0 < length values = omega (arith, here.inside (slice_index members 0) (Contains-get_or members 0 0 here.some), named) in
     let is_value = value_is values (slice_index members 0) c.index-values-members.result inside c.index-values-members.is in
     let are_rows : c.as_slice.result.now ≡ rows_among s members = c.as_slice.ensures.value ∙ c.in_ok-rows.ensures in
-    block_mean s values c.args.block members c.as_slice.result.now c.index-values-members.result here are_rows is_value c.group_count-groups.ensures.valid c.settings.result.now.loss
-    (ap (λ (x : Settings). x.loss) c.settings.ensures.settings) c.requires.best c.den-den.ensures.lowest
+    block_mean s values c.args.block members c.as_slice.result.now c.index-values-members.result here are_rows is_value c.requires.means c.settings.result.now.loss
+    (ap (λ (x : Settings). x.loss) c.settings.ensures.settings) c.den-den.ensures.lowest
 
 pub overflow_add-block : goal.overflow_add-block
 overflow_add-block c =
@@ -91,7 +91,7 @@ returns c =
     let values = c.args.values.now in
     let members = c.members-members.result.now in
     let here : IsReady s values c.args.block members = ready s c.group_count-groups.ensures.valid values c.args.order.now c.requires.order c.args.block c.requires.block members c.members-members.ensures.members in
-    let named : length values ≡ length (names_of s) = c.requires.best.count ∙ group_count s in
+    let named : length values ≡ length (names_of s) = c.requires.count in
     let inside : slice_index members 0 < length values = omega (arith, here.inside (slice_index members 0) (Contains-get_or members 0 0 here.some), named) in
     let is_value = value_is values (slice_index members 0) c.index-values-members.result inside c.index-values-members.is in
     let are_rows : c.as_slice-2.result.now ≡ rows_among s members = c.as_slice-2.ensures.value ∙ c.in_ok-rows.ensures in
