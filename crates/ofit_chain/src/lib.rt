@@ -8,8 +8,3 @@ mod stack;
 
 pub use fit::fit_chain;
 pub use stack::Stack;
-
-#[cfg(test)]
-mod search_tests;
-#[cfg(test)]
-mod tests;

@@ -23,15 +23,11 @@ mod extremes;
 mod limits;
 mod members;
 mod peel;
-#[cfg(test)]
-mod peel_tests;
 mod peeled;
 mod settle;
 mod slack;
 mod solve;
 mod span;
-#[cfg(test)]
-mod tests;
 mod tie;
 mod two_core;
 

@@ -15,6 +15,3 @@ mod values;
 pub use component::fit_component;
 pub use laws::fits_compose;
 pub use study::fit_study;
-
-#[cfg(test)]
-mod tests;

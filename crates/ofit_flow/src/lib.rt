@@ -24,8 +24,6 @@ mod phases;
 mod rows;
 mod side;
 mod step;
-#[cfg(test)]
-mod tests;
 mod walk;
 
 pub use edge::{Edge, MAX_CAPACITY, MAX_EDGES};

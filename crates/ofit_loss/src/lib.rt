@@ -20,6 +20,3 @@ pub use loss::Loss;
 pub use median::Median;
 pub use quantile::{Factors, QuantilePool};
 pub use squares::{Squares, SquaresPool};
-
-#[cfg(test)]
-mod tests;

@@ -10,8 +10,6 @@ mod header;
 mod records;
 mod report;
 mod rows;
-#[cfg(test)]
-mod tests;
 
 pub use block::blocks;
 pub use report::write_report;

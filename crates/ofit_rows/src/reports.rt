@@ -114,6 +114,29 @@ group,A,1,5000000000,1,0,1,0.000
 group,B,1,5000000000,1,0,1,0.000
 block,1,2,10000000000,0,1,10000000000000000000000000000,1
 end,-,-,-,-,-,-,-
+-- case a chain beside a group of its own
+-- file d
+group,value,weight
+A,1,1
+B,3,1
+C,2,3
+E,7,1
+-- file o
+low,high
+A,B
+B,C
+E,E
+-- run 0 2 1 report d order=file:o places=0
+ofit-report,1,squares,0,none,none,-,-
+size,4,4,3,2,3,-,-
+group,A,1,1,1,1,1,1.000
+group,B,1,1,2,9,4,2.250
+group,C,1,3,2,9,4,2.250
+group,E,1,1,3,7,1,7.000
+block,1,1,1,1,1,0,1
+block,2,2,4,9,4,3,4
+block,3,1,1,7,1,0,1
+end,-,-,-,-,-,-,-
 -- run 3 0 0 report d order=tree:Z places=0
 -- err
 ofit: order: no such group"#;

@@ -9,6 +9,3 @@ mod forest;
 
 pub use direction::Direction;
 pub use fit::fit_tree;
-
-#[cfg(test)]
-mod tests;

@@ -1,0 +1,77 @@
+ghost use Rattle.std.specs.Prelude.{◌≡◌, ◌<◌, ◌∷◌, [], All, length, IfOk};
+ghost use Rattle.ofit_num.specs.Limits.{all_rows};
+ghost use Rattle.ofit_loss.specs.Rows.{AreFittable};
+
+use ofit_chain::{Stack, fit_chain};
+use ofit_loss::{Loss, Median, Squares};
+use ofit_num::{Frac, Groups, Row};
+use std::alloc::{AllocError, Global};
+use std::test::Fail;
+
+fn row(value: i64, weight: u64) -> Row
+    ensures { result ≡ record { number = 1; value = value; weight = weight } }
+{
+    Row {
+        number: 1,
+        value,
+        weight,
+    }
+}
+
+/// Three groups with these rows, in order.
+fn three(alloc: Global, first: &[Row], second: &[Row], third: &[Row]) -> Result<Groups, AllocError>
+    ensures { IfOk result (λ groups. groups ≡ first.now ∷ second.now ∷ third.now ∷ []) }
+{
+    let mut groups = Groups::new(alloc);
+    groups.add(first)?;
+    groups.add(second)?;
+    groups.add(third)?;
+    Ok(groups)
+}
+
+/// Whether each value is the whole number given.
+pub(crate) fn are_whole(values: &[Frac], whole: &[i128]) -> bool {
+    values.len() == whole.len()
+        && values.iter().zip(whole).all(|(value, number)| value.num() == *number
+            && value.den() == 1)
+}
+
+/// The values of the groups up to each one, as a stack has them when it is pushed.
+fn values_after_each<L: Loss>(alloc: Global, groups: &Groups) -> Result<Vec<Vec<Frac>>, AllocError>
+    requires filled { All (λ rows. 0 < length rows) groups.now }
+    requires fittable { AreFittable (all_rows groups.now) }
+{
+    let mut stack = Stack::<L>::new(alloc);
+    let mut values = Vec::new(alloc);
+    for place in 0..groups.count() {
+        stack.push(groups.rows(place))?;
+        values.push(stack.values(alloc)?)?;
+    }
+    Ok(values)
+}
+
+#[test]
+fn a_stack_has_the_values_of_its_groups(rt: HostRuntime) -> Result<(), Fail> {
+    let alloc = rt.alloc();
+    let first = [row(5, 1)];
+    let second = [row(3, 1), row(7, 1)];
+    let third = [row(6, 1)];
+    let groups = three(alloc, &first, &second, &third)?;
+    let medians = values_after_each::<Median>(alloc, &groups)?;
+    assert_eq!(rt; medians.len(), 3);
+    assert!(rt; are_whole(&medians[0], &[5]));
+    assert!(rt; are_whole(&medians[1], &[5, 5]));
+    assert!(rt; are_whole(&medians[2], &[5, 5, 6]));
+    let means = values_after_each::<Squares>(alloc, &groups)?;
+    assert_eq!(rt; means.len(), 3);
+    assert!(rt; are_whole(&means[2], &[5, 5, 6]));
+    Ok(())
+}
+
+#[test]
+fn no_groups_have_no_values(rt: HostRuntime) -> Result<(), Fail> {
+    let alloc = rt.alloc();
+    let groups = Groups::new(alloc);
+    assert_eq!(rt; fit_chain::<Median>(alloc, &groups)?.len(), 0);
+    Ok(())
+}
