@@ -1,13 +1,12 @@
 -- Pairs that each join a place and the next one: their components are chains.
-use Rattle.std.proofs.Common.{◌≡◌, ℕ, zero, suc, ◌+◌, ◌<◌, ◌≤◌, ◌⊎◌, inl, inr, refl, sym, ap, subst, ◌∙◌, arith, slice_index, List, [], ◌∷◌, length, cond, ◌==◌, Bool, true, false}
-use Rattle.std.specs.List.{Contains, All, sum_by, count_by}
+use Rattle.std.proofs.Common.{◌≡◌, ℕ, suc, ◌+◌, ◌<◌, ◌≤◌, ◌⊎◌, inl, inr, refl, sym, subst, ◌∙◌, arith, slice_index, List, [], ◌∷◌, length, cond, ◌==◌, true, false}
+use Rattle.std.specs.List.{Contains, All, sum_by}
 use Rattle.std.specs.List.Sorted.{IsStrictlyIncreasing}
 use Rattle.std.proofs.lemmas.Bool.{cases_order}
 use Rattle.std.proofs.lemmas.List.Elements.{All-head, All-tail, All-contains, Contains-get_or}
-use Rattle.std.proofs.lemmas.List.Kept.{AllPairs-from_increasing}
 use Rattle.ofit_order.specs.Relation.{Relation, AreWithin, AreInOrder, ComesBefore}
-use Rattle.ofit_order.specs.Connection.{LeadsUp, Joins, IsWalkBy, IsReached, AreConnected}
-use Rattle.ofit_order.specs.Component.{HasComponent, AreMembers, IsComponentOf}
+use Rattle.ofit_order.specs.Connection.{Joins, IsWalkBy, AreConnected}
+use Rattle.ofit_order.specs.Component.{HasComponent, AreMembers}
 use Rattle.ofit_order.specs.declared.form.Form.TheVariants.{General}
 use Rattle.ofit_order.specs.Form.{higher_count, HasOneFewer, RisesOnce, HasForm}
 use Rattle.std.proofs.lemmas.Bool.Decides.{eqb_tells}

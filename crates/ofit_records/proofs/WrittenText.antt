@@ -1,5 +1,5 @@
 -- The text that the writer writes for a record, and what it is read back as.
-use Rattle.std.proofs.Common.{◌≡◌, ◌≢◌, ◌<◌, ◌+◌, ◌++◌, ◌∷◌, [], ℕ, zero, suc, List, refl, sym, ap, ◌∙◌, length, length-append, append_assoc, arith, Bool, true, Result, Ok, Err, OnOk}
+use Rattle.std.proofs.Common.{◌≡◌, ◌≢◌, ◌<◌, ◌+◌, ◌++◌, ◌∷◌, [], ℕ, zero, suc, List, refl, sym, ap, ◌∙◌, length, length-append, append_assoc, arith, true, Result, Ok, Err, OnOk}
 use Rattle.std.specs.Prelude.{if◌then◌else◌}
 use Rattle.std.specs.Result.{is_ok}
 use Rattle.std.specs.List.{All}

@@ -136,11 +136,7 @@ fn write_flow(
 }
 
 /// Writes the values by rising place.
-fn write_values(
-    writer: &mut RecordWriter,
-    study: &Study,
-    sheet: &Sheet,
-) -> Result<(), AllocError>
+fn write_values(writer: &mut RecordWriter, study: &Study, sheet: &Sheet) -> Result<(), AllocError>
     requires { FitsCount (length (names_of study.now)) sheet.now }
     ensures { OnOk result (writer.new ≡ writer.old ++ records_text (map (value_fields (names_of study.now)) sheet.now.values)) }
 {
@@ -152,11 +148,7 @@ fn write_values(
 }
 
 /// Writes the flows in their order.
-fn write_flows(
-    writer: &mut RecordWriter,
-    study: &Study,
-    sheet: &Sheet,
-) -> Result<(), AllocError>
+fn write_flows(writer: &mut RecordWriter, study: &Study, sheet: &Sheet) -> Result<(), AllocError>
     requires { FitsCount (length (names_of study.now)) sheet.now }
     ensures { OnOk result (writer.new ≡ writer.old ++ records_text (map (flow_fields (names_of study.now)) sheet.now.flows)) }
 {

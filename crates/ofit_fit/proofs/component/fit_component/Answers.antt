@@ -1,4 +1,4 @@
-use Rattle.std.proofs.Common.{◌≡◌, ◌∙◌, ℕ, List, map, ap, sym, subst}
+use Rattle.std.proofs.Common.{◌≡◌, ◌∙◌, List, map, ap, sym, subst}
 use Rattle.std.specs.Prelude.{Vec}
 use Rattle.std.specs.Global.{Global}
 use Rattle.std.proofs.lemmas.Result.{IfOk-weaker}
@@ -27,4 +27,4 @@ returns-clause-least_best c =
     for_members c.values_within.result m (problem_stated s) order c.args.component members c.members.ensures.members
     (IfOk-weaker c.values_within.result _ _
     (λ (within : Vec Frac Global) (e : within.items ≡ map (clip s.settings.lo s.settings.hi) c.deref.result.now).
-        subst (λ (vs : List Fraction). LeastBestValues m (part_of (problem_stated s) members) vs) (sym (e ∙ ap (map (clip s.settings.lo s.settings.hi)) c.deref.ensures.value)) low) c.values_within.ensures)
+    subst (λ (vs : List Fraction). LeastBestValues m (part_of (problem_stated s) members) vs) (sym (e ∙ ap (map (clip s.settings.lo s.settings.hi)) c.deref.ensures.value)) low) c.values_within.ensures)

@@ -1,7 +1,7 @@
-use Rattle.std.proofs.Common.{◌≡◌, ℕ, zero, suc, ◌+◌, ◌<◌, ◌≤◌, refl, sym, ap, subst, ◌∙◌, arith, List, [], ◌∷◌, length, get_or, inl, inr}
+use Rattle.std.proofs.Common.{◌≡◌, ℕ, zero, suc, ◌<◌, ◌≤◌, refl, sym, ap, ◌∙◌, arith, List, length, get_or, inl, inr}
 use Rattle.std.proofs.lemmas.Bool.{cases_eq}
 use Rattle.std.proofs.lemmas.Option.{slice_get_within, slice_get-get_or}
-use Rattle.std.specs.Prelude.{Bool, true, false, slice_get, is_some, Option, Some, None}
+use Rattle.std.specs.Prelude.{false, slice_get, is_some, Option, Some, None}
 use Rattle.ofit_fit_tests.proofs.tree.is_rooted_first.Goals as goal
 use Rattle.ofit_tree.specs.Tree.{IsParent, Climbs, IsRootedTree}
 

@@ -1,4 +1,4 @@
-use Rattle.std.proofs.Common.{◌≡◌, ℕ, ◌<◌, ◌≤◌}
+use Rattle.std.proofs.Common.{ℕ, ◌<◌, ◌≤◌}
 use Rattle.ofit_tree.specs.Tree.{IsParent}
 use Rattle.ofit_fit_tests.proofs.tree.is_rooted_first.Given as goal
 

@@ -1,4 +1,4 @@
-use Rattle.std.proofs.Common.{◌≡◌, ◌≢◌, ◌++◌, ◌∙◌, List, ℕ, Bor, map, ap, sym}
+use Rattle.std.proofs.Common.{◌≢◌, ◌++◌, ◌∙◌, List, ℕ, Bor, map, ap, sym}
 use Rattle.csv.specs.Writing.{row_text, writer_setup}
 use Rattle.csv.specs.declared.writer.WriterBuilder.{WriterBuilder}
 use Rattle.csv.specs.declared.writer.QuoteStyle.TheVariants as style

@@ -1,4 +1,4 @@
-use Rattle.std.proofs.Common.{◌≡◌, ◌+◌, ◌∙◌, ◌++◌, ℕ, List, [], length, length-append, ap, sym, refl, inl, arith}
+use Rattle.std.proofs.Common.{◌∙◌, ◌++◌, ℕ, List, [], length, length-append, ap, refl, inl, arith}
 use Rattle.ofit_num.specs.NumberText.{spelled_after}
 use Rattle.ofit_num.proofs.ShortDecimals.{no_spaces}
 use Rattle.ofit_num.proofs.decimal.plain.plain_of.Goals as goal

@@ -1,4 +1,4 @@
-use Rattle.std.proofs.Common.{◌≡◌, ◌+◌, ◌-◌, ◌*◌, ◌^◌, ◌++◌, ◌∙◌, ℕ, ap, arith, length, pos}
+use Rattle.std.proofs.Common.{◌-◌, ◌*◌, ◌++◌, ◌∙◌, ℕ, ap, arith, length, pos}
 use Rattle.ofit_num.specs.NumberText.{IsDigit, spelled_after}
 use Rattle.ofit_num.proofs.Runs.{all_back}
 use Rattle.ofit_num.proofs.Scaled.{once}

@@ -1,4 +1,4 @@
-use Rattle.std.proofs.Common.{◌≡◌, ◌<◌, ℕ, List, length, slice_index, arith, subst, ap}
+use Rattle.std.proofs.Common.{◌<◌, ℕ, List, slice_index, arith, subst}
 use Rattle.ofit_order.specs.Rows.{rows_of, row}
 use Rattle.ofit_order.specs.Relation.{Relation}
 use Rattle.ofit_order.specs.Component.{IsComponentOf, AreMembers}

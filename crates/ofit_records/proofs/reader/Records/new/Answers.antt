@@ -1,4 +1,4 @@
-use Rattle.std.proofs.Common.{◌≤◌, ◌+◌, ◌∙◌, List, ℕ, length, ap}
+use Rattle.std.proofs.Common.{◌∙◌, ap}
 use Rattle.ofit_records.specs.Coming.{coming}
 use Rattle.ofit_records.proofs.Coming.{all_to_come, count_records}
 use Rattle.ofit_records.proofs.reader.Records.new.Goals as goal
