@@ -7,6 +7,7 @@
 mod block;
 mod cost;
 mod header;
+mod laws;
 mod records;
 mod report;
 mod rows;
@@ -14,4 +15,5 @@ mod rows;
 mod tests;
 
 pub use block::blocks;
+pub use laws::reports_are_told_in_one_way;
 pub use report::write_report;

@@ -1,5 +1,4 @@
-ghost use Rattle.std.specs.Prelude.{◌≡◌, IfOk, length};
-ghost use Rattle.ofit_study.specs.Study.{names_of};
+ghost use Rattle.std.specs.Prelude.{◌≡◌, IfOk};
 ghost use Rattle.ofit_study.specs.declared.settings.LossKind.TheVariants.{Median};
 
 use crate::blocks;
@@ -149,7 +148,8 @@ fn report_of_no_rows(rt: HostRuntime) -> Result<(), Fail> {
     };
     let study = Study::empty(rt.alloc(), settings);
     let text = write_report(rt.alloc(), &study, &[])?;
-    let wanted: &[u8] = b"ofit-report,1,squares,3,-5,5,-,-\nsize,0,0,0,0,0,-,-\nend,-,-,-,-,-,-,-\n";
+    let wanted: &[u8] =
+        b"ofit-report,1,squares,3,-5,5,-,-\nsize,0,0,0,0,0,-,-\nend,-,-,-,-,-,-,-\n";
     assert!(&rt; text.as_slice() == wanted);
     Ok(())
 }

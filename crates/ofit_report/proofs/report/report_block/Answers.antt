@@ -10,7 +10,6 @@ use Rattle.ofit_study.specs.declared.settings.Settings.{Settings}
 use Rattle.ofit_study.specs.Study.{names_of, meaning_of}
 use Rattle.ofit_report.specs.Cost.{rows_among, IsCost}
 use Rattle.ofit_report.specs.ReportText.{block_fields}
-use Rattle.ofit_report.proofs.Places.{group_count}
 use Rattle.ofit_report.proofs.Ready.{IsReady, ready, value_is}
 use Rattle.ofit_report.proofs.Reported.{block_record, block_mean}
 use Rattle.ofit_report.proofs.report.report_block.Goals as goal
