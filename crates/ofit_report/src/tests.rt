@@ -80,58 +80,60 @@ fn is_told(alloc: Global, case: &Case) -> Result<bool, Fail> {
     Ok(numbers.as_slice() == case.blocks && text.as_slice() == case.text)
 }
 
+/// Studies under medians with what is told of them.
+static CASES: [Case<'static>; 4] = [
+    Case {
+        places: 0,
+        lo: Some(-1),
+        rows: &[(b"A", 0, 1), (b"B", 0, 1), (b"C", -1, 1)],
+        pairs: &[(0, 1), (1, 2)],
+        values: &[(-1, 3), (-1, 3), (-1, 3)],
+        blocks: &[1, 1, 1],
+        text: b"ofit-report,1,median,0,-1,none,-,-\nsize,3,3,2,1,1,-,-\ngroup,A,1,1,1,-1,3,-0.334\ngroup,B,1,1,1,-1,3,-0.334\ngroup,C,1,1,1,-1,3,-0.334\nblock,1,3,3,-1,3,4,3\nend,-,-,-,-,-,-,-\n",
+    },
+    Case {
+        places: 6,
+        lo: None,
+        rows: &[
+            (b"a,b", -7, 2),
+            (b"say \"x\"", -7, 3),
+            (b"z", -7, 1),
+            (b"z", 5, 1),
+        ],
+        pairs: &[(1, 2)],
+        values: &[(-7, 1), (-7, 1), (-7, 1)],
+        blocks: &[1, 2, 2],
+        text: b"ofit-report,1,median,6,none,none,-,-\nsize,3,4,1,2,2,-,-\ngroup,\"a,b\",1,2,1,-7,1,-0.000007000\ngroup,\"say \"\"x\"\"\",1,3,2,-7,1,-0.000007000\ngroup,z,2,2,2,-7,1,-0.000007000\nblock,1,1,2,-7,1,0,1\nblock,2,2,5,-7,1,12,1\nend,-,-,-,-,-,-,-\n",
+    },
+    Case {
+        places: 0,
+        lo: None,
+        rows: &[
+            (b"A", 5, 1),
+            (b"B", 5, 1),
+            (b"C", 4, 1),
+            (b"D", 5, 1),
+            (b"E", 5, 1),
+        ],
+        pairs: &[(0, 4), (4, 0), (2, 2), (3, 1), (2, 1)],
+        values: &[(5, 1), (5, 1), (9, 2), (5, 1), (5, 1)],
+        blocks: &[1, 2, 3, 2, 1],
+        text: b"ofit-report,1,median,0,none,none,-,-\nsize,5,5,5,2,3,-,-\ngroup,A,1,1,1,5,1,5.000\ngroup,B,1,1,2,5,1,5.000\ngroup,C,1,1,3,9,2,4.500\ngroup,D,1,1,2,5,1,5.000\ngroup,E,1,1,1,5,1,5.000\nblock,1,2,2,5,1,0,1\nblock,2,2,2,5,1,0,1\nblock,3,1,1,9,2,1,2\nend,-,-,-,-,-,-,-\n",
+    },
+    Case {
+        places: 3,
+        lo: Some(1_000_000_000),
+        rows: &[(b"A", -1_000_000_000, 10_000_000_000)],
+        pairs: &[],
+        values: &[(1_000_000_000, 1)],
+        blocks: &[1],
+        text: b"ofit-report,1,median,3,1000000000,none,-,-\nsize,1,1,0,1,1,-,-\ngroup,A,1,10000000000,1,1000000000,1,1000000.000000\nblock,1,1,10000000000,1000000000,1,20000000000000000000,1\nend,-,-,-,-,-,-,-\n",
+    },
+];
+
 #[test]
 fn blocks_and_reports(rt: HostRuntime) -> Result<(), Fail> {
-    let cases = [
-        Case {
-            places: 0,
-            lo: Some(-1),
-            rows: &[(b"A", 0, 1), (b"B", 0, 1), (b"C", -1, 1)],
-            pairs: &[(0, 1), (1, 2)],
-            values: &[(-1, 3), (-1, 3), (-1, 3)],
-            blocks: &[1, 1, 1],
-            text: b"ofit-report,1,median,0,-1,none,-,-\nsize,3,3,2,1,1,-,-\ngroup,A,1,1,1,-1,3,-0.334\ngroup,B,1,1,1,-1,3,-0.334\ngroup,C,1,1,1,-1,3,-0.334\nblock,1,3,3,-1,3,4,3\nend,-,-,-,-,-,-,-\n",
-        },
-        Case {
-            places: 6,
-            lo: None,
-            rows: &[
-                (b"a,b", -7, 2),
-                (b"say \"x\"", -7, 3),
-                (b"z", -7, 1),
-                (b"z", 5, 1),
-            ],
-            pairs: &[(1, 2)],
-            values: &[(-7, 1), (-7, 1), (-7, 1)],
-            blocks: &[1, 2, 2],
-            text: b"ofit-report,1,median,6,none,none,-,-\nsize,3,4,1,2,2,-,-\ngroup,\"a,b\",1,2,1,-7,1,-0.000007000\ngroup,\"say \"\"x\"\"\",1,3,2,-7,1,-0.000007000\ngroup,z,2,2,2,-7,1,-0.000007000\nblock,1,1,2,-7,1,0,1\nblock,2,2,5,-7,1,12,1\nend,-,-,-,-,-,-,-\n",
-        },
-        Case {
-            places: 0,
-            lo: None,
-            rows: &[
-                (b"A", 5, 1),
-                (b"B", 5, 1),
-                (b"C", 4, 1),
-                (b"D", 5, 1),
-                (b"E", 5, 1),
-            ],
-            pairs: &[(0, 4), (4, 0), (2, 2), (3, 1), (2, 1)],
-            values: &[(5, 1), (5, 1), (9, 2), (5, 1), (5, 1)],
-            blocks: &[1, 2, 3, 2, 1],
-            text: b"ofit-report,1,median,0,none,none,-,-\nsize,5,5,5,2,3,-,-\ngroup,A,1,1,1,5,1,5.000\ngroup,B,1,1,2,5,1,5.000\ngroup,C,1,1,3,9,2,4.500\ngroup,D,1,1,2,5,1,5.000\ngroup,E,1,1,1,5,1,5.000\nblock,1,2,2,5,1,0,1\nblock,2,2,2,5,1,0,1\nblock,3,1,1,9,2,1,2\nend,-,-,-,-,-,-,-\n",
-        },
-        Case {
-            places: 3,
-            lo: Some(1_000_000_000),
-            rows: &[(b"A", -1_000_000_000, 10_000_000_000)],
-            pairs: &[],
-            values: &[(1_000_000_000, 1)],
-            blocks: &[1],
-            text: b"ofit-report,1,median,3,1000000000,none,-,-\nsize,1,1,0,1,1,-,-\ngroup,A,1,10000000000,1,1000000000,1,1000000.000000\nblock,1,1,10000000000,1000000000,1,20000000000000000000,1\nend,-,-,-,-,-,-,-\n",
-        },
-    ];
-    for case in &cases {
+    for case in &CASES {
         let told = is_told(rt.alloc(), case)?;
         assert!(&rt; told);
     }
