@@ -11,3 +11,4 @@ pub mod Means
 pub mod Ready
 pub mod Reported
 pub mod Listed
+pub mod Once

@@ -7,9 +7,11 @@
 mod block;
 mod cost;
 mod header;
+mod laws;
 mod records;
 mod report;
 mod rows;
 
 pub use block::blocks;
+pub use laws::reports_are_told_in_one_way;
 pub use report::write_report;

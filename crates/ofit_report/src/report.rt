@@ -154,7 +154,8 @@ pub(crate) fn report_text(
 ///
 /// A block's cost fits 128 bits. The sums of weights, weighted values and weighted squares of rows within
 /// their limits are at most 10^10, 10^19 and 10^28, and under squares an optimal fit gives each block the
-/// mean of its rows, or a bound: that is what this function's proof shows of values that are best.
+/// mean of its rows, or a bound: `proofs/Means` shows it of values that are best, since the rows of a block
+/// strictly between the bounds could gain by being raised or lowered together.
 pub fn write_report(alloc: Global, study: &Study, values: &[Frac]) -> Result<Vec<u8>, AllocError>
     requires { BestValues (meaning_of study.now.settings.loss) (problem_stated study.now) values.now }
     ensures { IfOk result (λ text. ReportText study.now values.now text.items) }

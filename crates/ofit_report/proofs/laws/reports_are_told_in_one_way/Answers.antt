@@ -1,0 +1,5 @@
+use Rattle.ofit_report.proofs.Once.{one_report}
+use Rattle.ofit_report.proofs.laws.reports_are_told_in_one_way.Goals as goal
+
+pub returns : goal.returns
+returns c = λ s values a b lowest x y. one_report s values lowest a b x y
