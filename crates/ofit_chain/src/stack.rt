@@ -7,7 +7,7 @@ ghost use Rattle.ofit_num.specs.Fit.{LeastBestValues};
 ghost use Rattle.ofit_num.specs.Settled.{IsSettled, IsLeastSettled};
 ghost use Rattle.ofit_loss.specs.Rows.{AreFittable};
 ghost use Rattle.ofit_chain.specs.Chain.{chain_problem};
-ghost use Rattle.ofit_chain.specs.Stacked.{IsStack, CanPush};
+ghost use Rattle.ofit_chain.specs.Stacked.{Holds, CanHold};
 ghost use Rattle.ofit_chain.specs.declared.block.Block.{Block};
 
 use crate::block::{Block, block_of, merge};
@@ -44,7 +44,7 @@ fn take_above<P: Drop>(stack: &mut Vec<Block<P>>, value: &Frac) -> Option<Block<
 impl<L: Loss> Stack<L> {
     /// The stack of no groups. It takes no memory.
     pub fn new(alloc: Global) -> Stack<L>
-        ensures { IsStack L.IsPoolOf L.meaning L.STRICT [] result.blocks.items }
+        ensures { Holds L.IsPoolOf L.meaning L.STRICT [] result }
     {
         Stack {
             alloc,
@@ -54,10 +54,10 @@ impl<L: Loss> Stack<L> {
 
     /// Puts the rows on as one more group. After want of memory the stack has no groups.
     pub fn push(&mut self, rows: &[Row]) -> Result<(), AllocError>
-        requires { CanPush L.IsPoolOf L.meaning L.STRICT self.old.blocks.items rows.now }
-        ensures ok { (groups : RowLists) → IsStack L.IsPoolOf L.meaning L.STRICT groups self.old.blocks.items → AreFittable (all_rows (groups ++ rows.now ∷ []))
-            → OnOk result (IsStack L.IsPoolOf L.meaning L.STRICT (groups ++ rows.now ∷ []) self.new.blocks.items) }
-        ensures err { OnErr result (IsStack L.IsPoolOf L.meaning L.STRICT [] self.new.blocks.items) }
+        requires { CanHold L.IsPoolOf L.meaning L.STRICT self.old rows.now }
+        ensures ok { (groups : RowLists) → Holds L.IsPoolOf L.meaning L.STRICT groups self.old → AreFittable (all_rows (groups ++ rows.now ∷ []))
+            → OnOk result (Holds L.IsPoolOf L.meaning L.STRICT (groups ++ rows.now ∷ []) self.new) }
+        ensures err { OnErr result (Holds L.IsPoolOf L.meaning L.STRICT [] self.new) }
     {
         match self.absorb(rows) {
             Ok(()) => Ok(()),
@@ -72,12 +72,12 @@ impl<L: Loss> Stack<L> {
     /// the next one, the loss of all rows at their groups' values is least, and pointwise they are the
     /// least of such values.
     pub fn values(&self, alloc: Global) -> Result<Vec<Frac>, AllocError>
-        ensures count { (groups : RowLists) → IsStack L.IsPoolOf L.meaning L.STRICT groups self.now.blocks.items → IfOk result (λ values. vec_len values ≡ length groups) }
-        ensures least_best { (groups : RowLists) → IsStack L.IsPoolOf L.meaning L.STRICT groups self.now.blocks.items
+        ensures count { (groups : RowLists) → Holds L.IsPoolOf L.meaning L.STRICT groups self.now → IfOk result (λ values. vec_len values ≡ length groups) }
+        ensures least_best { (groups : RowLists) → Holds L.IsPoolOf L.meaning L.STRICT groups self.now
             → IfOk result (λ values. LeastBestValues L.meaning (chain_problem groups) values.items) }
-        ensures settled { (groups : RowLists) → IsStack L.IsPoolOf L.meaning L.STRICT groups self.now.blocks.items
+        ensures settled { (groups : RowLists) → Holds L.IsPoolOf L.meaning L.STRICT groups self.now
             → IfOk result (λ values. IsSettled L.meaning (chain_problem groups) (trial_of values.items)) }
-        ensures least_settled { (groups : RowLists) → IsStack L.IsPoolOf L.meaning L.STRICT groups self.now.blocks.items
+        ensures least_settled { (groups : RowLists) → Holds L.IsPoolOf L.meaning L.STRICT groups self.now
             → IfOk result (λ values. L.STRICT ≡ false → IsLeastSettled L.meaning (chain_problem groups) (trial_of values.items)) }
     {
         let mut values = Vec::new(alloc);
@@ -91,9 +91,9 @@ impl<L: Loss> Stack<L> {
 
     /// Puts the rows on as one more group, whose block absorbs those before it.
     fn absorb(&mut self, rows: &[Row]) -> Result<(), AllocError>
-        requires { CanPush L.IsPoolOf L.meaning L.STRICT self.old.blocks.items rows.now }
-        ensures { (groups : RowLists) → IsStack L.IsPoolOf L.meaning L.STRICT groups self.old.blocks.items → AreFittable (all_rows (groups ++ rows.now ∷ []))
-            → OnOk result (IsStack L.IsPoolOf L.meaning L.STRICT (groups ++ rows.now ∷ []) self.new.blocks.items) }
+        requires { CanHold L.IsPoolOf L.meaning L.STRICT self.old rows.now }
+        ensures { (groups : RowLists) → Holds L.IsPoolOf L.meaning L.STRICT groups self.old → AreFittable (all_rows (groups ++ rows.now ∷ []))
+            → OnOk result (Holds L.IsPoolOf L.meaning L.STRICT (groups ++ rows.now ∷ []) self.new) }
     {
         let mut block = block_of::<L>(self.alloc, rows)?;
         while let Some(last) = take_above(&mut self.blocks, &block.value) {

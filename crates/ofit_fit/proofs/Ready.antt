@@ -1,11 +1,10 @@
 -- What a study that can be fitted tells of its problem.
-use Rattle.std.proofs.Common.{◌≡◌, ℕ, zero, suc, ◌+◌, ◌<◌, ◌≤◌, refl, sym, ap, ap₂, subst, arith, inl, inr, List, [], ◌∷◌, length, slice_index, ◌↔◌, length-append, cond, nat_lt, Bool, false}
+use Rattle.std.proofs.Common.{◌≡◌, ℕ, zero, suc, ◌+◌, ◌<◌, ◌≤◌, refl, ap, subst, arith, inl, inr, List, [], ◌∷◌, length, slice_index, ◌↔◌, length-append, cond, nat_lt, Bool, false}
 use Rattle.std.proofs.lemmas.Bool.Decides.{nat_tests}
 use Rattle.std.proofs.lemmas.List.Sums.{sum_by-cons}
 use Rattle.std.proofs.lemmas.List.{length-map, get_or_append_left, get_or-append-add}
-use Rattle.std.proofs.Math.Path.{fun_ext}
 use Rattle.std.proofs.lemmas.List.Elements.{Contains-get_or, All-nil, All-cons, All-contains, All-head, All-tail}
-use Rattle.std.specs.Prelude.{All, Option, ℤ, Result, IfOk, Vec}
+use Rattle.std.specs.Prelude.{All, Result, IfOk, Vec}
 use Rattle.std.specs.Global.{Global}
 use Rattle.std.proofs.lemmas.Result.{IfOk-weaker}
 use Rattle.ofit_num.specs.declared.frac.Frac.{Frac}
@@ -13,7 +12,7 @@ use Rattle.ofit_num.specs.Fit.{LeastBestValues}
 use Rattle.std.specs.List.{Any, Contains}
 use Rattle.std.specs.List.Sorted.{IsStrictlyIncreasing}
 use Rattle.ofit_num.specs.declared.row.Row.{Row}
-use Rattle.ofit_num.specs.Problem.{Problem, Bounds, problem_of, no_bounds}
+use Rattle.ofit_num.specs.Problem.{Problem, no_bounds}
 use Rattle.ofit_num.specs.Meaning.{Meaning}
 use Rattle.ofit_num.specs.Law.{HasScaling}
 use Rattle.ofit_num.specs.Limits.{all_rows}
@@ -30,7 +29,7 @@ use Rattle.ofit_loss.proofs.ProblemLaws.{groups_fittable, problem_scaling}
 use Rattle.ofit_study.specs.Study.{Study, IsValid, names_of, rows_named, groups_of, places_of, place_among, problem_stated, most_rows}
 use Rattle.ofit_study.proofs.Stating.{rows_within, numbers_within, groups_filled}
 use Rattle.ofit_fit.specs.Part.{part_of, IsOrderOf}
-use Rattle.ofit_fit.specs.Piece.{IsFittable, ArePlaces, IsUnbounded, free_problem}
+use Rattle.ofit_fit.specs.Piece.{IsFittable, ArePlaces, free_problem}
 use Rattle.ofit_fit.proofs.Closed.{IsClosed, distinct_from_increasing}
 
 module _ (s : Study) (order : Relation) (fit : IsFittable s order) where
@@ -55,12 +54,6 @@ none_special (r ∷ rows) h =
   where
     lower : (n : ℕ) → n ≤ 100000 → nat_lt 4294967293 n ≡ false
     lower n l = grind (arith, nat_tests)
-
--- the study without its bounds is the study, where it has none
-pub without_bounds : (s : Study) → IsUnbounded s.settings → free_problem s ≡ problem_stated s
-without_bounds s free = ap (problem_of (groups_of s) (places_of s)) (fun_ext (λ g. sym (ap₂ (λ (l h : Option ℤ). bounds l h) free.lo free.hi))) where
-  bounds : Option ℤ → Option ℤ → Bounds
-  bounds l h = record { lo = l; hi = h }
 
 -- each row of a valid study is an observation
 some_plain : (rows : List Row) → 0 < length rows → All (λ r. r.number ≤ most_rows) rows → Any IsPlain rows

@@ -1,5 +1,5 @@
 -- What the fit of a component takes.
-use Rattle.std.specs.Prelude.{◌≡◌, ℕ, ◌<◌, ◌≤◌, ◌^◌, ◌↔◌, List, length, None}
+use Rattle.std.specs.Prelude.{ℕ, ◌<◌, ◌≤◌, ◌^◌, ◌↔◌, List, length}
 use Rattle.std.specs.List.{Contains, All, Any}
 use Rattle.std.specs.List.Sorted.{IsStrictlyIncreasing}
 use Rattle.ofit_num.specs.Problem.{Problem, problem_of, no_bounds}
@@ -7,14 +7,8 @@ use Rattle.ofit_num.specs.Limits.{all_rows}
 use Rattle.ofit_order.specs.Relation.{Relation}
 use Rattle.ofit_order.specs.Connection.{LeadsUp}
 use Rattle.ofit_loss.specs.Rows.{AreFittable, IsPlain}
-use Rattle.ofit_study.specs.declared.settings.Settings.{Settings}
 use Rattle.ofit_study.specs.Study.{Study, groups_of, places_of, problem_stated}
 use Rattle.ofit_fit.specs.Part.{IsOrderOf}
-
--- the values may be as small and as great as they come
-pub record IsUnbounded (settings : Settings) : Type 0 where
-  pub lo : settings.lo ≡ None
-  pub hi : settings.hi ≡ None
 
 -- the problem that a study states, without its bounds
 abbrev pub free_problem : Study → Problem

@@ -40,8 +40,8 @@ fn do_words<F: Folder, O: Sink>(
     }
 }
 
-/// Does what the words ask for: reads the named files from the folder, fits or verifies, and writes the
-/// output to `out`. A run that is refused, or that folder, output or memory ends, tells why in one line
+/// Does what the words ask for: reads the named files from the folder, fits, reports or verifies, and
+/// writes the output to `out`. A run that is refused, or that folder, output or memory ends, tells why in one line
 /// on `err`; a failing `err` changes no answer.
 ///
 /// The whole output is made before any of it is written; it is put in pieces of 4,096 bytes. The tally
