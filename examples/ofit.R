@@ -1,0 +1,93 @@
+# Calls ofit from R: ofit_fit(data, settings) and ofit_verify(data, sheet, settings). Base R alone.
+#
+#   source("examples/ofit.R")
+#   data <- data.frame(group = c("A", "B", "C"), value = c(1, 3, 2))
+#   fit <- ofit_fit(data, places = 0)
+#   fit$values                                  # group, num, den (text, exact, in units of 10^-places), fit
+#   ofit_verify(data, fit$sheet, places = 0)    # "passes"
+#
+# data has the columns group, value and, if there is one, weight; groups are numbered in the order of their first
+# rows, and nothing is sorted. Values are written with all their digits and never rounded unless digits = asks for it.
+# order is a word of ofit's (chain, none, umbrella:GROUP, tree:GROUP) or a data frame with the columns low and high.
+# The program is the one that the environment variable OFIT names, or `ofit` on the path. What it refuses is an error
+# with its message.
+
+ofit_fit <- function(data, order = "chain", loss = "squares", places = 3, lo = NULL, hi = NULL, digits = NULL) {
+  folder <- tempfile("ofit"); dir.create(folder); on.exit(unlink(folder, recursive = TRUE))
+  words <- c(.ofit_written(folder, data, digits), .ofit_settings(folder, order, loss, places, lo, hi))
+  sheet <- .ofit_called("fit", words)
+  report <- .ofit_records(.ofit_called("report", words), 8)
+  records <- .ofit_records(sheet, 4)
+  values <- setNames(records[records[[1]] == "value", 2:4], c("group", "num", "den"))
+  values$fit <- as.numeric(values$num) / as.numeric(values$den) / 10^places
+  values$block <- as.integer(report[report[[1]] == "group", 5])
+  flows <- setNames(records[records[[1]] == "flow", 2:4], c("low", "high", "amount"))
+  blocks <- setNames(report[report[[1]] == "block", 2:8], c("block", "groups", "weight", "num", "den", "cost_num", "cost_den"))
+  blocks$fit <- as.numeric(blocks$num) / as.numeric(blocks$den) / 10^places
+  parts <- lapply(list(values = values, blocks = blocks, flows = flows), function(part) { rownames(part) <- NULL; part })
+  fitted <- parts$values$fit[match(.ofit_text(data$group), parts$values$group)]
+  c(parts, list(fitted = fitted, sheet = paste0(sheet, "\n", collapse = "")))
+}
+
+ofit_verify <- function(data, sheet, order = "chain", loss = "squares", places = 3, lo = NULL, hi = NULL, digits = NULL) {
+  folder <- tempfile("ofit"); dir.create(folder); on.exit(unlink(folder, recursive = TRUE))
+  file <- file.path(folder, "sheet")
+  .ofit_put(sub("\n$", "", paste(sheet, collapse = "\n")), file)
+  .ofit_called("verify", c(.ofit_written(folder, data, digits), file, .ofit_settings(folder, order, loss, places, lo, hi)))
+}
+
+.ofit_text <- function(x) enc2utf8(as.character(x))
+
+# numbers with 15 digits where these give the number back, else with 17; NA stays
+.ofit_number <- function(x, digits = NULL) {
+  if (!is.numeric(x)) return(.ofit_text(x))
+  if (!is.null(digits)) x <- round(x, digits)
+  vapply(x, function(number) {
+    text <- format(number, digits = 15, scientific = FALSE)
+    if (is.finite(number) && as.numeric(text) != number) text <- format(number, digits = 17, scientific = FALSE)
+    text
+  }, "")
+}
+
+.ofit_put <- function(lines, file) {
+  to <- base::file(file, "wb"); on.exit(close(to))
+  writeLines(lines, to, useBytes = TRUE)
+}
+
+.ofit_table <- function(columns, file) {
+  quoted <- lapply(columns, function(x) paste0('"', gsub('"', '""', x, fixed = TRUE), '"'))
+  header <- paste(names(columns), collapse = ",")
+  .ofit_put(c(header, do.call(paste, c(unname(quoted), sep = ","))), file)
+  file
+}
+
+.ofit_written <- function(folder, data, digits) {
+  if (anyNA(data$group)) stop("a row without a group")
+  columns <- list(group = .ofit_text(data$group), value = .ofit_number(data$value, digits))
+  if (!is.null(data$weight)) columns$weight <- .ofit_number(data$weight)
+  .ofit_table(columns, file.path(folder, "data.csv"))
+}
+
+.ofit_settings <- function(folder, order, loss, places, lo, hi) {
+  if (is.data.frame(order)) {
+    columns <- list(low = .ofit_text(order$low), high = .ofit_text(order$high))
+    order <- paste0("file:", .ofit_table(columns, file.path(folder, "order.csv")))
+  }
+  words <- c(paste0("order=", order), paste0("loss=", loss), paste0("places=", places))
+  c(words, if (!is.null(lo)) paste0("lo=", .ofit_number(lo)), if (!is.null(hi)) paste0("hi=", .ofit_number(hi)))
+}
+
+# the lines of the output; what is refused is an error
+.ofit_called <- function(command, words) {
+  out <- tempfile("out"); err <- tempfile("err"); on.exit(unlink(c(out, err)))
+  program <- Sys.getenv("OFIT", "ofit")
+  if (!nzchar(Sys.which(program))) stop("no such program: ", program)
+  status <- system2(program, shQuote(c(command, words)), stdout = out, stderr = err)
+  if (status > 1) stop(paste(readLines(err, encoding = "UTF-8"), collapse = "\n"), call. = FALSE)
+  readLines(out, encoding = "UTF-8")
+}
+
+# no name is read as NA, and no number as a double
+.ofit_records <- function(lines, fields)
+  read.csv(text = lines, header = FALSE, colClasses = rep("character", fields), na.strings = character(0),
+           encoding = "UTF-8")

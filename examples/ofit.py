@@ -1,0 +1,104 @@
+"""Calls ofit from Python: fit(rows, settings) and verify(rows, sheet, settings). Standard library alone.
+
+    import ofit
+    fit = ofit.fit([("A", 1), ("B", 3), ("C", 2)], places=0)
+    fit.values["B"], fit.floats["B"]    # Fraction(5, 2), 2.5
+    ofit.verify(rows, fit.sheet, places=0)    # "passes"
+
+Rows are (group, value) or (group, value, weight), in the order in which groups are to be numbered; nothing is
+sorted. A value is written as str() spells it, so "12.50", Decimal and float all go through exactly, and nothing is
+rounded unless digits= asks for it. The program is the one that the environment variable OFIT names, or `ofit` on
+the path. What it refuses raises OfitError with its message.
+"""
+
+import csv
+import io
+import os
+import subprocess
+import tempfile
+from collections import namedtuple
+from decimal import ROUND_HALF_EVEN, Decimal
+from fractions import Fraction
+
+Fit = namedtuple("Fit", "values floats blocks flows sheet")
+Block = namedtuple("Block", "groups weight value cost")
+Flow = namedtuple("Flow", "low high amount")
+
+
+class OfitError(Exception):
+    """What the program said on its error output; status is its status."""
+
+    def __init__(self, message, status):
+        super().__init__(message)
+        self.status = status
+
+
+def fit(rows, order="chain", loss="squares", places=3, lo=None, hi=None, digits=None):
+    """The fit of rows: values by group, in the data's units, as fractions and as floats; blocks; flows; the sheet.
+
+    order is a word of ofit's (chain, none, umbrella:GROUP, tree:GROUP) or a list of pairs (low, high). A block's
+    cost is in the data's units, squared for squares; a flow's amount is the sheet's.
+    """
+    with tempfile.TemporaryDirectory() as folder:
+        words = _written(folder, rows, digits) + _settings(folder, order, loss, places, lo, hi)
+        sheet, report = _called("fit", words), _called("report", words)
+    unit = Fraction(1, 10**places)
+    values, flows, blocks = {}, [], []
+    for kind, *fields in csv.reader(io.StringIO(sheet, newline="")):
+        if kind == "value":
+            values[fields[0]] = Fraction(int(fields[1]), int(fields[2])) * unit
+        elif kind == "flow":
+            flows.append(Flow(fields[0], fields[1], int(fields[2])))
+    members = {}
+    for kind, *fields in csv.reader(io.StringIO(report, newline="")):
+        if kind == "group":
+            members.setdefault(fields[3], []).append(fields[0])
+        elif kind == "block":
+            value, cost = (Fraction(int(fields[at]), int(fields[at + 1])) for at in (3, 5))
+            blocks.append(Block(members[fields[0]], int(fields[2]), value * unit, cost * unit ** (1 + (loss == "squares"))))
+    return Fit(values, {group: float(value) for group, value in values.items()}, blocks, flows, sheet)
+
+
+def verify(rows, sheet, order="chain", loss="squares", places=3, lo=None, hi=None, digits=None):
+    """The line that `ofit verify` writes of a sheet's text: "passes", or one that begins with "fails"."""
+    with tempfile.TemporaryDirectory() as folder:
+        data = _written(folder, rows, digits)
+        name = os.path.join(folder, "sheet")
+        with open(name, "w", encoding="utf-8", newline="") as file:
+            file.write(sheet)
+        return _called("verify", data + [name] + _settings(folder, order, loss, places, lo, hi)).rstrip("\n")
+
+
+def _spelled(value, digits):
+    if digits is None:
+        return str(value)
+    return str(Decimal(str(value)).quantize(Decimal(1).scaleb(-digits), ROUND_HALF_EVEN))
+
+
+def _written(folder, rows, digits):
+    name = os.path.join(folder, "data.csv")
+    with open(name, "w", encoding="utf-8", newline="") as file:
+        writer = csv.writer(file, quoting=csv.QUOTE_ALL, lineterminator="\n")
+        writer.writerow(("group", "value", "weight"))
+        for group, value, *weight in rows:
+            if group is None or group != group:
+                raise ValueError("a row without a group")
+            writer.writerow((group, _spelled(value, digits), weight[0] if weight else 1))
+    return [name]
+
+
+def _settings(folder, order, loss, places, lo, hi):
+    if not isinstance(order, str):
+        name = os.path.join(folder, "order.csv")
+        with open(name, "w", encoding="utf-8", newline="") as file:
+            csv.writer(file, quoting=csv.QUOTE_ALL, lineterminator="\n").writerows([("low", "high"), *order])
+        order = "file:" + name
+    bounds = [f"{key}={bound}" for key, bound in (("lo", lo), ("hi", hi)) if bound is not None]
+    return [f"order={order}", f"loss={loss}", f"places={places}", *bounds]
+
+
+def _called(command, words):
+    ran = subprocess.run([os.environ.get("OFIT", "ofit"), command, *words], capture_output=True)
+    if ran.returncode > 1:
+        raise OfitError(ran.stderr.decode().strip(), ran.returncode)
+    return ran.stdout.decode()
