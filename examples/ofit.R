@@ -25,7 +25,7 @@ ofit_fit <- function(data, order = "chain", loss = "squares", places = 3, lo = N
   blocks <- setNames(report[report[[1]] == "block", 2:8], c("block", "groups", "weight", "num", "den", "cost_num", "cost_den"))
   blocks$fit <- as.numeric(blocks$num) / as.numeric(blocks$den) / 10^places
   parts <- lapply(list(values = values, blocks = blocks, flows = flows), function(part) { rownames(part) <- NULL; part })
-  fitted <- parts$values$fit[match(.ofit_text(data$group), parts$values$group)]
+  fitted <- parts$values$fit[match(.ofit_text(data[["group"]]), parts$values$group)]
   c(parts, list(fitted = fitted, sheet = paste0(sheet, "\n", collapse = "")))
 }
 
@@ -62,15 +62,17 @@ ofit_verify <- function(data, sheet, order = "chain", loss = "squares", places =
 }
 
 .ofit_written <- function(folder, data, digits) {
-  if (anyNA(data$group)) stop("a row without a group")
-  columns <- list(group = .ofit_text(data$group), value = .ofit_number(data$value, digits))
-  if (!is.null(data$weight)) columns$weight <- .ofit_number(data$weight)
+  columns <- list()
+  if (!is.null(data[["group"]])) columns$group <- .ofit_text(data[["group"]])
+  if (!is.null(data[["value"]])) columns$value <- .ofit_number(data[["value"]], digits)
+  if (!is.null(data[["weight"]])) columns$weight <- .ofit_number(data[["weight"]])
+  if (anyNA(columns$group)) stop("a row without a group", call. = FALSE)
   .ofit_table(columns, file.path(folder, "data.csv"))
 }
 
 .ofit_settings <- function(folder, order, loss, places, lo, hi) {
   if (is.data.frame(order)) {
-    columns <- list(low = .ofit_text(order$low), high = .ofit_text(order$high))
+    columns <- list(low = .ofit_text(order[["low"]]), high = .ofit_text(order[["high"]]))
     order <- paste0("file:", .ofit_table(columns, file.path(folder, "order.csv")))
   }
   words <- c(paste0("order=", order), paste0("loss=", loss), paste0("places=", places))
