@@ -63,7 +63,7 @@ def main():
     axes.set_xticks(range(len(names)), names, rotation=turn)
     axes.set_ylabel("value")
     axes.spines[["top", "right"]].set_visible(False)
-    axes.legend(frameon=False, loc="lower center", bbox_to_anchor=(0.5, 1), ncols=3)
+    axes.legend(frameon=False, loc="lower center", bbox_to_anchor=(0.5, 1), ncol=3)
     figure.savefig(picture, dpi=120)
 
 
