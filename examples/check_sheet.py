@@ -335,20 +335,15 @@ DAMAGES = (
     "longer shorter quote cut byte ends mark behind"
 )
 OTHERS = (
-    (b"lo", b"lo=0"), (b"hi", b"hi=100"), (b"loss", b"loss=median"), (b"loss", b"loss=squares"), (b"places", b"places=6"),
-    (b"places", b"places=7"), (b"lo", b"lo=5 hi=4"), (b"hi", b"hi"), (b"order", b"order=none"), (b"order", b"order=tree:?"),
+    (b"lo", b"lo=0"), (b"lo", b"lo=5 hi=4"), (b"hi", b"hi=100"), (b"hi", b"hi"),
+    (b"loss", b"loss=median"), (b"loss", b"loss=squares"), (b"places", b"places=6"), (b"places", b"places=7"),
+    (b"order", b"order=none"), (b"order", b"order=tree:?"),
 )
 ODD = b"", b"0", b"-0", b"-1", b"007", b"+3", b"1.5", b"1e3", b"none", b"-", b"NA", b"flow", b"A", b"9" * 13, b"9" * 35
 
 
-def damaged(text, chance):
-    """The text with one damage: to a line, a field, a byte or the whole."""
-    lines = [line.split(b",") for line in text.rstrip(b"\n").split(b"\n")]
-    at, other = chance.randrange(len(lines)), chance.randrange(len(lines))
-    line = lines[at]
-    spot = chance.randrange(len(line))
-    alike = chance.choice([like for like in lines if like[0] == line[0] and len(like) == len(line)])
-    kind = chance.choice(DAMAGES.split())
+def hurt_field(kind, line, spot, alike, chance):
+    """Changes fields of a line; alike is another line of its kind."""
     if kind == "number":
         spots = [place for place, field in enumerate(line) if re.fullmatch(rb"-?[0-9]+", field)]
         for place in chance.sample(spots, min(1, len(spots))):
@@ -363,29 +358,47 @@ def damaged(text, chance):
         line[spot] = chance.choice(ODD)
     elif kind == "double" and len(line) == 4 and line[3].isdigit():
         line[2:] = [b"%d" % (2 * int(field)) if field.lstrip(b"-").isdigit() else field for field in line[2:]]
-    elif kind == "drop":
-        del lines[at]
-    elif kind == "twice":
-        lines.insert(at, line)
-    elif kind == "swap":
-        lines[at], lines[other] = lines[other], line
+    elif kind == "quote":
+        line[spot] = b'"' + line[spot].replace(b"0", b'""') + chance.choice((b'"', b'"', b'"x', b""))
     elif kind == "longer":
         line.insert(spot, b"")
     elif kind == "shorter":
         del line[spot]
-    elif kind == "quote":
-        line[spot] = b'"' + line[spot].replace(b"0", b'""') + chance.choice((b'"', b'"', b'"x', b""))
+
+
+def hurt_lines(kind, lines, at, other):
+    """Changes which lines there are, and their order."""
+    if kind == "drop":
+        del lines[at]
+    elif kind == "twice":
+        lines.insert(at, lines[at])
+    elif kind == "swap":
+        lines[at], lines[other] = lines[other], lines[at]
     elif kind == "behind":
-        lines.append(chance.choice(([b""], [b"end", b"-", b"-", b"-"], line)))
-    text = b"".join(b",".join(line) + b"\n" for line in lines)
+        lines.append(lines[other])
+
+
+def hurt_bytes(kind, text, chance):
+    """Changes bytes: the text is cut off, has one more, other line ends, or byte order marks."""
+    place = chance.randrange(len(text) + 1)
     if kind == "cut":
-        return text[: chance.randrange(len(text) + 1)]
+        return text[:place]
     if kind == "byte":
-        place = chance.randrange(len(text) + 1)
         return text[:place] + chance.choice((b'"', b",", b"\r", b"\n", b" ", b"\x00", b"\xff", b"5")) + text[place:]
     if kind == "ends":
         return text.replace(b"\n", chance.choice((b"\r", b"\r\n", b"\n\n")))
     return b"\xef\xbb\xbf" * 2 + text if kind == "mark" else text
+
+
+def damaged(text, chance):
+    """The text with one damage."""
+    lines = [line.split(b",") for line in text.rstrip(b"\n").split(b"\n")]
+    at, other, kind = chance.randrange(len(lines)), chance.randrange(len(lines)), chance.choice(DAMAGES.split())
+    line = lines[at]
+    alike = chance.choice([like for like in lines if like[0] == line[0] and len(like) == len(line)])
+    hurt_field(kind, line, chance.randrange(len(line)), alike, chance)
+    hurt_lines(kind, lines, at, other)
+    return hurt_bytes(kind, b"".join(b",".join(fields) + b"\n" for fields in lines), chance)
 
 
 def cases(folder, chance):

@@ -22,18 +22,21 @@ ofit_fit <- function(data, order = "chain", loss = "squares", places = 3, lo = N
   values$fit <- as.numeric(values$num) / as.numeric(values$den) / 10^places
   values$block <- as.integer(report[report[[1]] == "group", 5])
   flows <- setNames(records[records[[1]] == "flow", 2:4], c("low", "high", "amount"))
-  blocks <- setNames(report[report[[1]] == "block", 2:8], c("block", "groups", "weight", "num", "den", "cost_num", "cost_den"))
+  named <- c("block", "groups", "weight", "num", "den", "cost_num", "cost_den")
+  blocks <- setNames(report[report[[1]] == "block", 2:8], named)
   blocks$fit <- as.numeric(blocks$num) / as.numeric(blocks$den) / 10^places
-  parts <- lapply(list(values = values, blocks = blocks, flows = flows), function(part) { rownames(part) <- NULL; part })
+  parts <- lapply(list(values = values, blocks = blocks, flows = flows), `rownames<-`, NULL)
   fitted <- parts$values$fit[match(.ofit_text(data[["group"]]), parts$values$group)]
   c(parts, list(fitted = fitted, sheet = paste0(sheet, "\n", collapse = "")))
 }
 
-ofit_verify <- function(data, sheet, order = "chain", loss = "squares", places = 3, lo = NULL, hi = NULL, digits = NULL) {
+ofit_verify <- function(data, sheet, order = "chain", loss = "squares", places = 3, lo = NULL, hi = NULL,
+                        digits = NULL) {
   folder <- tempfile("ofit"); dir.create(folder); on.exit(unlink(folder, recursive = TRUE))
   file <- file.path(folder, "sheet")
   .ofit_put(sub("\n$", "", paste(sheet, collapse = "\n")), file)
-  .ofit_called("verify", c(.ofit_written(folder, data, digits), file, .ofit_settings(folder, order, loss, places, lo, hi)))
+  words <- c(.ofit_written(folder, data, digits), file, .ofit_settings(folder, order, loss, places, lo, hi))
+  .ofit_called("verify", words)
 }
 
 .ofit_text <- function(x) enc2utf8(as.character(x))

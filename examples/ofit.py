@@ -55,7 +55,8 @@ def fit(rows, order="chain", loss="squares", places=3, lo=None, hi=None, digits=
             members.setdefault(fields[3], []).append(fields[0])
         elif kind == "block":
             value, cost = (Fraction(int(fields[at]), int(fields[at + 1])) for at in (3, 5))
-            blocks.append(Block(members[fields[0]], int(fields[2]), value * unit, cost * unit ** (1 + (loss == "squares"))))
+            cost *= unit**2 if loss == "squares" else unit
+            blocks.append(Block(members[fields[0]], int(fields[2]), value * unit, cost))
     return Fit(values, {group: float(value) for group, value in values.items()}, blocks, flows, sheet)
 
 
