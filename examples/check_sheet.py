@@ -89,18 +89,19 @@ def fetch(which, name):
 
 def table(which, data, needed, optional=()):
     """The places of the columns, and the later records with their numbers."""
-    found = list(records(data))
-    if not found:
+    found = records(data)
+    header = next(found, None)
+    if header is None:
         raise Refused(3, f"{which}: no header")
     for column in needed + optional:
-        if found[0].count(column) > 1:
+        if header.count(column) > 1:
             raise Refused(3, f"{which}: column twice {column.decode()}")
-        if column in needed and column not in found[0]:
+        if column in needed and column not in header:
             raise Refused(3, f"{which}: no column {column.decode()}")
-    places = [found[0].index(column) for column in needed + optional if column in found[0]]
+    places = [header.index(column) for column in needed + optional if column in header]
 
     def rows():
-        for number, record in enumerate(found[1:], 2):
+        for number, record in enumerate(found, 2):
             if len(record) <= max(places):
                 raise Refused(3, f"{which} record {number}: field missing")
             yield number, [record[place] for place in places]
