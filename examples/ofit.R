@@ -58,7 +58,7 @@ ofit_verify <- function(data, sheet, order = "chain", loss = "squares", places =
 }
 
 .ofit_table <- function(columns, file) {
-  quoted <- lapply(columns, function(x) paste0('"', gsub('"', '""', x, fixed = TRUE), '"'))
+  quoted <- lapply(columns, function(x) sprintf('"%s"', gsub('"', '""', x, fixed = TRUE)))
   header <- paste(names(columns), collapse = ",")
   .ofit_put(c(header, do.call(paste, c(unname(quoted), sep = ","))), file)
   file
