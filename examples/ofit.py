@@ -1,14 +1,15 @@
 """Calls ofit from Python: fit(rows, settings) and verify(rows, sheet, settings). Standard library alone.
 
     import ofit
-    fit = ofit.fit([("A", 1), ("B", 3), ("C", 2)], places=0)
+    rows = [("A", 1), ("B", 3), ("C", 2)]
+    fit = ofit.fit(rows, places=0)
     fit.values["B"], fit.floats["B"]    # Fraction(5, 2), 2.5
     ofit.verify(rows, fit.sheet, places=0)    # "passes"
 
 Rows are (group, value) or (group, value, weight), in the order in which groups are to be numbered; nothing is
-sorted. A value is written as str() spells it, so "12.50", Decimal and float all go through exactly, and nothing is
-rounded unless digits= asks for it. The program is the one that the environment variable OFIT names, or `ofit` on
-the path. What it refuses raises OfitError with its message.
+sorted, and groups come back as text. A value is written as str() spells it, so "12.50", Decimal and float all go
+through exactly, and nothing is rounded unless digits= asks for it. The program is the one that the environment
+variable OFIT names, or `ofit` on the path. What it refuses raises OfitError with its message.
 """
 
 import csv
