@@ -9,7 +9,7 @@ use Rattle.ofit_study.specs.Study.{Study, names_of, groups_of, places_of, place_
 use Rattle.ofit_check.specs.Told.{told}
 use Rattle.ofit_check.specs.declared.verdict.Verdict.{Verdict}
 use Rattle.ofit_check.specs.declared.verdict.Verdict.TheVariants.{Settings, Size, GroupMissing, Disobeys, OutOfBounds, FlowNotPair, FlowOrder, FlowNotTight, Balance, Passes}
-use Rattle.ofit_answer.specs.VerdictText.{IsNamed}
+use Rattle.ofit_answer.specs.Named.{IsNamed}
 
 module _ (s : Study) where
   group_inside : (place : ℕ) → place < length (groups_of s) → place < length (names_of s)

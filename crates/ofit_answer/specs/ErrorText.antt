@@ -10,10 +10,10 @@ use Rattle.ofit_table.specs.declared.fault.OrderFault.{OrderFault}
 use Rattle.ofit_table.specs.declared.fault.OrderFault.TheVariants as order
 use Rattle.ofit_sheet.specs.declared.fault.SheetFault.{SheetFault}
 use Rattle.ofit_sheet.specs.declared.fault.SheetFault.TheVariants as sheet
-use Rattle.ofit_answer.specs.declared.answer.Which.{Which}
-use Rattle.ofit_answer.specs.declared.answer.Which.TheVariants as which
-use Rattle.ofit_answer.specs.declared.answer.Refusal.{Refusal}
-use Rattle.ofit_answer.specs.declared.answer.Refusal.TheVariants as refusal
+use Rattle.ofit_input.specs.declared.refusal.Which.{Which}
+use Rattle.ofit_input.specs.declared.refusal.Which.TheVariants as which
+use Rattle.ofit_input.specs.declared.refusal.Refusal.{Refusal}
+use Rattle.ofit_input.specs.declared.refusal.Refusal.TheVariants as refusal
 use Rattle.ofit_answer.specs.declared.answer.Answer.{Answer}
 use Rattle.ofit_answer.specs.declared.answer.Answer.TheVariants as answer
 

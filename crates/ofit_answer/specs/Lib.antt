@@ -1,5 +1,7 @@
+pub mod Endings
 pub mod ErrorText
 pub mod MessageText
 pub mod Status
 pub mod Tells
 pub mod VerdictText
+pub mod Named

@@ -1,21 +1,8 @@
 -- The line of a verdict on a sheet of a study.
-use Rattle.std.specs.Prelude.{ℕ, ◌<◌, List, [], ◌++◌, codes, decimal, length, slice_index_or, ⊤}
+use Rattle.std.specs.Prelude.{ℕ, List, [], ◌++◌, codes, decimal, slice_index_or}
 use Rattle.ofit_study.specs.Study.{Study, names_of}
 use Rattle.ofit_check.specs.declared.verdict.Verdict.{Verdict}
 use Rattle.ofit_check.specs.declared.verdict.Verdict.TheVariants.{Settings, Size, GroupMissing, Disobeys, OutOfBounds, FlowNotPair, FlowOrder, FlowNotTight, Balance, Passes}
-
--- the group or the pair that the verdict speaks of is one of the study's
-abbrev pub IsNamed : Study → Verdict → Type 0
-IsNamed s Settings = ⊤
-IsNamed s Size = ⊤
-IsNamed s (GroupMissing place) = place < length (names_of s)
-IsNamed s (Disobeys index) = index < length s.pairs
-IsNamed s (OutOfBounds place) = place < length (names_of s)
-IsNamed s (FlowNotPair number) = ⊤
-IsNamed s (FlowOrder number) = ⊤
-IsNamed s (FlowNotTight number) = ⊤
-IsNamed s (Balance place) = place < length (names_of s)
-IsNamed s Passes = ⊤
 
 -- the name of the group at a place
 abbrev pub group_text : Study → ℕ → List ℕ

@@ -2,37 +2,8 @@ ghost use Rattle.std.specs.Prelude.{◌≡◌};
 ghost use Rattle.ofit_answer.specs.Status.{status_of};
 
 use ofit_check::Verdict;
-use ofit_sheet::SheetFault;
-use ofit_table::{DataFault, OrderFault};
+use ofit_input::Refusal;
 use ofit_words::WordFault;
-
-/// Which of the named files a refusal speaks of.
-#[derive(Clone, Copy, Debug, PartialEq, Eq)]
-pub enum Which {
-    /// The data file.
-    Table,
-    /// The order file.
-    Pairs,
-    /// The sheet.
-    Sheet,
-}
-
-/// Why the inputs were refused.
-#[derive(Clone, Copy, Debug, PartialEq, Eq)]
-pub enum Refusal {
-    /// The folder holds no file of that name.
-    FileMissing(Which),
-    /// The file is longer than 33,554,432 bytes.
-    FileLong(Which),
-    /// The data file is no table of rows.
-    Table(DataFault),
-    /// The order doesn't give pairs of the study's groups.
-    Pairs(OrderFault),
-    /// The sheet can't be read.
-    Sheet(SheetFault),
-    /// The words ask for something that this program can't do yet.
-    NotBuilt,
-}
 
 /// How a run ended.
 #[derive(Clone, Copy, Debug, PartialEq, Eq)]

@@ -4,10 +4,11 @@
 #![tactic(auto)]
 
 mod answer;
+mod ending;
 mod line;
 mod message;
 mod verdict;
 
-pub use answer::{Answer, Refusal, Which, status};
+pub use answer::{Answer, status};
 pub use line::tell;
 pub use verdict::verdict_line;

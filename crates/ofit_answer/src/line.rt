@@ -2,11 +2,12 @@ ghost use Rattle.std.specs.Prelude.{◌≡◌};
 ghost use Rattle.std.specs.List.{flat_map};
 ghost use Rattle.ofit_answer.specs.ErrorText.{file_text, line_of};
 ghost use Rattle.ofit_answer.specs.MessageText.{message_text};
-ghost use Rattle.ofit_answer.specs.Tells.{IsTold, Tells};
+ghost use Rattle.ofit_answer.specs.Tells.{sink, IsTold, Tells};
 
-use crate::answer::{Answer, Which};
+use crate::answer::Answer;
 use crate::message::{Message, message_of};
 use itoa::Buffer;
+use ofit_input::Which;
 use ofit_outside::Sink;
 
 /// The name of a file in a message.
@@ -22,7 +23,7 @@ fn file_name(file: Which) -> &'static [u8]
 
 /// Puts the pieces one after the other, up to the first that fails.
 fn put_all<E: Sink>(err: &mut E, pieces: &[&[u8]])
-    ensures { IsTold (E.written err.old) (E.written err.new) (E.faults err.old) (E.faults err.new) (flat_map (λ p. p.now) pieces.now) }
+    ensures { IsTold (sink (E.written err.old) (E.faults err.old)) (sink (E.written err.new) (E.faults err.new)) (flat_map (λ p. p.now) pieces.now) }
 {
     for piece in pieces {
         if let Err(_) = err.put(piece) {
@@ -33,7 +34,7 @@ fn put_all<E: Sink>(err: &mut E, pieces: &[&[u8]])
 
 /// Puts the line of a message.
 fn put_message<E: Sink>(err: &mut E, message: &Message)
-    ensures { IsTold (E.written err.old) (E.written err.new) (E.faults err.old) (E.faults err.new) (line_of (message_text message.now)) }
+    ensures { IsTold (sink (E.written err.old) (E.faults err.old)) (sink (E.written err.new) (E.faults err.new)) (line_of (message_text message.now)) }
 {
     let mut digits = Buffer::new();
     match *message {
@@ -80,7 +81,7 @@ fn put_message<E: Sink>(err: &mut E, message: &Message)
 /// Puts the line of an answer to the error output, in pieces that take no memory, up to the first put
 /// that fails. Nothing is put for a run whose whole output was written.
 pub fn tell<E: Sink>(err: &mut E, answer: &Answer)
-    ensures { Tells (E.written err.old) (E.written err.new) (E.faults err.old) (E.faults err.new) answer.now }
+    ensures { Tells (sink (E.written err.old) (E.faults err.old)) (sink (E.written err.new) (E.faults err.new)) answer.now }
 {
     if let Some(message) = message_of(answer) {
         put_message(err, &message);

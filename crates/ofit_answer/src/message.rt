@@ -2,7 +2,8 @@ ghost use Rattle.std.specs.Prelude.{◌≡◌, Some, None, MatchOption};
 ghost use Rattle.ofit_answer.specs.ErrorText.{line_of, words_text, data_text, order_text, sheet_text, refusal_text, error_line};
 ghost use Rattle.ofit_answer.specs.MessageText.{message_text};
 
-use crate::answer::{Answer, Refusal, Which};
+use crate::answer::Answer;
+use ofit_input::{Refusal, Which};
 use ofit_sheet::SheetFault;
 use ofit_table::{Column, DataFault, OrderFault};
 use ofit_words::WordFault;

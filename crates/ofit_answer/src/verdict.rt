@@ -1,7 +1,8 @@
 ghost use Rattle.std.specs.Prelude.{◌≡◌, ◌<◌, IfOk, length};
 ghost use Rattle.std.specs.List.{flat_map};
 ghost use Rattle.ofit_study.specs.Study.{names_of};
-ghost use Rattle.ofit_answer.specs.VerdictText.{IsNamed, group_fault, pair_fault, flow_fault, verdict_text};
+ghost use Rattle.ofit_answer.specs.Named.{IsNamed};
+ghost use Rattle.ofit_answer.specs.VerdictText.{group_fault, pair_fault, flow_fault, verdict_text};
 
 use itoa::Buffer;
 use ofit_check::Verdict;

@@ -17,6 +17,7 @@ use Rattle.ofit_cut.specs.Balance as cut
 use Rattle.ofit_sheet.specs.Kept.{most_amount}
 use Rattle.ofit_sheet.specs.Parts.{flow_of}
 use Rattle.ofit_cert.specs.TightFlows.{is_above_zero, flows_along}
+use Rattle.ofit_num.proofs.LowestTerms.{positive_size}
 
 abbrev carries : (ℕ × ℕ) × ℤ → Bool
 carries e = is_above_zero e.1
@@ -55,13 +56,10 @@ flows_limited pairs amounts h = All-map (λ f. (pos 1 ≤ℤ f.2) × (f.2 ≤ℤ
   both : All (λ e. (pos 1 ≤ℤ e.1) × (e.1 ≤ℤ pos most_amount)) (filter carries (zip pairs amounts))
   both k d l = (at_least_one _ (filter_passes carries (zip pairs amounts) k d l), high k d l)
 
-size_of_one : (z : ℤ) → pos 1 ≤ℤ z → 0 < unsigned_abs z
-size_of_one z h = omega (arith, ints)
-
 pub flows_carry : (pairs : List (ℕ × ℕ)) (amounts : List ℤ) → All (λ amount. amount ≤ℤ pos (2 * 10 ^ 33)) amounts → All (λ f. 0 < f.amount) (map flow_of (flows_along pairs amounts))
 flows_carry pairs amounts h =
     All-map (λ f. 0 < f.amount) flow_of (flows_along pairs amounts)
-    (All-weaker (λ f. (pos 1 ≤ℤ f.2) × (f.2 ≤ℤ pos most_amount)) (λ f. 0 < unsigned_abs f.2) (λ f k. size_of_one f.2 k.0) (flows_along pairs amounts) (flows_limited pairs amounts h))
+    (All-weaker (λ f. (pos 1 ≤ℤ f.2) × (f.2 ≤ℤ pos most_amount)) (λ f. 0 < unsigned_abs f.2) (λ f k. positive_size f.2 k.0) (flows_along pairs amounts) (flows_limited pairs amounts h))
 
 pub flows_few : (pairs : List (ℕ × ℕ)) (amounts : List ℤ) → length (flows_along pairs amounts) ≤ length pairs
 flows_few pairs amounts = omega (

@@ -19,7 +19,8 @@ use Rattle.ofit_cert.specs.TightFlows.{Certify, flows_along}
 use Rattle.ofit_cert.proofs.Entering.{entries-values, pairs_rise}
 use Rattle.ofit_cert.proofs.Flowing.{flows_limited, flows_few}
 use Rattle.ofit_cert.proofs.Passing.{sheet_fits, sheet_passes}
-use Rattle.ofit_cert.proofs.Places.{group_count, tight_few}
+use Rattle.ofit_study.proofs.Places.{group_count}
+use Rattle.ofit_cert.proofs.Places.{tight_few}
 
 module _ (s : Study) (v : IsValid s) (fs : List Fraction) (fractions : All IsFractionInLimits fs) (best : BestValues (meaning_of s.settings.loss) (problem_stated s) fs) (amounts : List ℤ) (certify : Certify (meaning_of s.settings.loss) (problem_stated s) fs (tight_among fs (places_of s)) amounts) where
   abbrev size : Option num.Size

@@ -3,7 +3,7 @@ use Rattle.std.proofs.Common.{◌≡◌, ◌⊎◌, inl, inr, ℕ, zero, suc, �
 use Rattle.std.proofs.lemmas.Int.{ints}
 use Rattle.std.proofs.lemmas.Bool.{cases_order}
 use Rattle.std.proofs.lemmas.Bool.Decides.{nat_tests, Decides-int_eq}
-use Rattle.std.specs.Prelude.{ℤ, pos, ◌+ℤ◌, ◌*ℤ◌, ◌≤ℤ◌, All, slice_get, unwrap_or, Option, Some, None}
+use Rattle.std.specs.Prelude.{ℤ, pos, ◌+ℤ◌, ◌*ℤ◌, ◌≤ℤ◌, All, slice_get, Option, Some, None}
 use Rattle.ofit_num.specs.declared.row.Row.{Row}
 use Rattle.ofit_num.specs.Problem.{Problem, HasPlaces}
 use Rattle.ofit_num.specs.Meaning.{Meaning}
@@ -17,7 +17,7 @@ use Rattle.ofit_num.specs.Settled.{IsSettled, CanRise, CanFall}
 use Rattle.ofit_num.specs.Loss.{squares, median}
 use Rattle.ofit_num.proofs.Order.{cancel_ℤ, assoc_swap, mul_pos, pow_above, zero_mul_ℤ}
 use Rattle.ofit_num.proofs.Lists.{All-slice_get}
-use Rattle.ofit_num.proofs.Trials.{value_of-den, fraction_at, cross}
+use Rattle.ofit_num.proofs.Trials.{value_of-den, cross}
 use Rattle.ofit_num.proofs.Coprime.{same_lowest}
 use Rattle.ofit_num.proofs.Pieces.{meet, and_both, both_and}
 use Rattle.ofit_num.proofs.Cuts.{but_not, not_but, not_both}
@@ -27,11 +27,7 @@ use Rattle.ofit_num.proofs.TableScaling.{absolute-scaling, squared-scaling}
 use Rattle.ofit_num.proofs.TableFalling.{proportional}
 use Rattle.ofit_num.proofs.TableSettled.{either_best_settled}
 use Rattle.ofit_cert.specs.Tight.{own}
-
-own-get : (fs : List Fraction) (g : ℕ) → g < length fs → slice_get fs g ≡ Some (own fs g)
-own-get fs g l = go (fraction_at fs g l) where
-  go : (f : Fraction) × (slice_get fs g ≡ Some f) → slice_get fs g ≡ Some (own fs g)
-  go k = k.1 ∙ ap Some (sym (ap (λ (o : Option Fraction). unwrap_or o (record { num = pos 0; den = 1 })) k.1))
+use Rattle.ofit_cert.proofs.Spanning.{own_at}
 
 is_equal : (x y : ℤ) → int_eq x y ≡ true → x ≡ y
 is_equal x y e = grind (arith, Decides-int_eq)
@@ -114,7 +110,7 @@ module _ (fs : List Fraction) (n : ℕ) (c : ℕ → ℤ) (Sign : ℤ → Type 0
 -- A best list's sums at its own terms, for a loss that scales.
 module _ (m : Meaning) (s : Problem) (fs : List Fraction) (law : HasScaling m s) (lowest : All IsLowest fs) (count : length fs ≡ s.count) (settled : IsSettled m s (trial_of fs)) (places : HasPlaces s) where
   get : (g : ℕ) → g < s.count → slice_get fs g ≡ Some (own fs g)
-  get g l = own-get fs g (subst (λ (n : ℕ). g < n) (sym count) l)
+  get g l = own_at fs g (subst (λ (n : ℕ). g < n) (sym count) l)
 
   lowest_at : (g : ℕ) → g < s.count → IsLowest (own fs g)
   lowest_at g l = All-slice_get IsLowest fs g (own fs g) lowest (get g l)

@@ -1,5 +1,5 @@
 -- The tight pairs and the open spans of a valid study are such as a balance of flows takes, and best values have flows.
-use Rattle.std.proofs.Common.{◌≡◌, ◌⊎◌, inl, inr, ℕ, ◌*◌, ◌<◌, ◌≤◌, ◌^◌, List, [], length, refl, sym, subst, ◌∙◌, arith, Bool, true, false, get_or, mul-le-mul_left}
+use Rattle.std.proofs.Common.{◌≡◌, ℕ, ◌*◌, ◌<◌, ◌≤◌, ◌^◌, List, [], length, sym, subst, ◌∙◌, arith, Bool, true, false, get_or, mul-le-mul_left}
 use Rattle.std.proofs.lemmas.Int.{ints}
 use Rattle.std.proofs.lemmas.List.Elements.{All-filter, All-weaker}
 use Rattle.std.proofs.lemmas.List.{get_or_default}
@@ -9,36 +9,24 @@ use Rattle.ofit_num.specs.declared.row.Row.{Row}
 use Rattle.ofit_num.specs.Fraction.{Fraction, IsLowest}
 use Rattle.ofit_num.specs.Fit.{BestValues}
 use Rattle.ofit_num.specs.Limits.{IsRowWithinLimits, AreWithinLimits, total_weight, all_rows}
-use Rattle.ofit_num.specs.Loss.{squares, median}
 use Rattle.ofit_num.specs.Meaning.{Meaning}
-use Rattle.ofit_num.specs.Problem.{Problem, Bounds}
+use Rattle.ofit_num.specs.Problem.{Bounds}
 use Rattle.ofit_num.specs.Span.{is_at}
 use Rattle.ofit_num.proofs.Lists.{All-slice_get}
 use Rattle.ofit_num.proofs.RowLists.{group_within}
-use Rattle.ofit_num.proofs.TableSupport.{absolute-support, squared-support}
 use Rattle.ofit_cut.specs.declared.span.Span.{Span}
 use Rattle.ofit_cut.specs.Barrier.{IsAbove, IsBelow}
 use Rattle.ofit_cut.specs.Sets.{AreWithin}
 use Rattle.ofit_cut.specs.Span.{span_size, total_span, IsOrdered, no_limits}
 use Rattle.ofit_sheet.specs.Kept.{IsFractionInLimits}
-use Rattle.ofit_study.specs.declared.settings.LossKind.{LossKind}
-use Rattle.ofit_study.specs.declared.settings.LossKind.TheVariants.{Squares, Median}
 use Rattle.ofit_study.specs.Study.{Study, IsValid, groups_of, places_of, problem_stated, meaning_of}
 use Rattle.ofit_study.proofs.Stating.{rows_within, pairs_have_places}
 use Rattle.ofit_cert.specs.Tight.{own, is_tight, tight_among}
 use Rattle.ofit_cert.specs.OpenSpans.{open_end, open_span, AreOpenSpans}
+use Rattle.ofit_span.proofs.StatedLosses.{one_of_two, stated_support}
 use Rattle.ofit_cert.proofs.Spanning.{own_at}
 use Rattle.ofit_cert.proofs.Sizes.{open_span_within, total_within}
 use Rattle.ofit_cert.proofs.Barred.{none_above, none_below}
-
--- the loss of a study is one of the two
-pub one_of_two : (k : LossKind) → (meaning_of k ≡ squares) ⊎ (meaning_of k ≡ median)
-one_of_two Squares = inl refl
-one_of_two Median = inr refl
-
-ends_ordered : (k : LossKind) (s : Problem) (g : ℕ) → g < s.count → (c : Fraction) → 0 < c.den → (meaning_of k).least (s.rows g) c.num c.den ≤ℤ (meaning_of k).greatest (s.rows g) c.num c.den
-ends_ordered Squares s g l c d = (squared-support (record { above = 1; below = 1 }) s).ordered g l c.num c.den d
-ends_ordered Median s g l c d = (absolute-support (record { above = 1; below = 1 }) s).ordered g l c.num c.den d
 
 end_of : (b : Bool) (z e : ℤ) → open_end b z ≡ Some e → z ≡ e
 end_of true z e h = cc
@@ -61,7 +49,7 @@ module _ (s : Study) (v : IsValid s) (fs : List Fraction) (fractions : All IsFra
       let below : g < length (groups_of s) = omega (arith, l, are.counted) in
       let same : get_or spans g d ≡ open_span (meaning_of s.settings.loss) ((problem_stated s).rows g) ((problem_stated s).bounds g) (own fs g) = get_or_default spans g d no_limits l ∙ are.each g below in
       subst IsOrdered (sym same)
-      (open_span_ordered (meaning_of s.settings.loss) ((problem_stated s).rows g) ((problem_stated s).bounds g) (own fs g) (ends_ordered s.settings.loss (problem_stated s) g below (own fs g) (own_in_limits g below).lowest.den))
+      (open_span_ordered (meaning_of s.settings.loss) ((problem_stated s).rows g) ((problem_stated s).bounds g) (own fs g) ((stated_support s v s.settings.loss).ordered g below (own fs g).num (own fs g).den (own_in_limits g below).lowest.den))
       least greatest
 
   group_rows : (g : ℕ) → g < length (groups_of s) → All IsRowWithinLimits ((problem_stated s).rows g)
@@ -73,10 +61,10 @@ module _ (s : Study) (v : IsValid s) (fs : List Fraction) (fractions : All IsFra
 
   pub small_ready : total_span spans ≤ 2 * 10 ^ 33
   small_ready =
-      let sizes : total_span spans ≤ 2 * 10 ^ 21 * total_weight (all_rows (groups_of s)) = total_within (2 * 10 ^ 21) spans (groups_of s) are.counted
-      (λ g l. subst (λ (x : Span). span_size x ≤ 2 * 10 ^ 21 * total_weight ((problem_stated s).rows g)) (sym (are.each g l))
-      (open_span_within s.settings.loss ((problem_stated s).rows g) ((problem_stated s).bounds g) (own fs g) (group_rows g l) (own_in_limits g l).limits)) in
-      omega (arith, sizes, mul-le-mul_left (2 * 10 ^ 21) (rows_within s v).together)
+      let sizes : total_span spans ≤ 2 * 10 ^ 23 * total_weight (all_rows (groups_of s)) = total_within (2 * 10 ^ 23) spans (groups_of s) are.counted
+      (λ g l. subst (λ (x : Span). span_size x ≤ 2 * 10 ^ 23 * total_weight ((problem_stated s).rows g)) (sym (are.each g l))
+      (open_span_within s.settings.loss v.settings.loss ((problem_stated s).rows g) ((problem_stated s).bounds g) (own fs g) (group_rows g l) (own_in_limits g l).limits)) in
+      omega (arith, sizes, mul-le-mul_left (2 * 10 ^ 23) (rows_within s v).together)
 
   module _ (best : BestValues (meaning_of s.settings.loss) (problem_stated s) fs) (set : ℕ → Bool) where
     lowest : All IsLowest fs

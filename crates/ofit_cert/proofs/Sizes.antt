@@ -1,25 +1,23 @@
--- How great the spans of groups are at fractions within their limits.
-use Rattle.std.proofs.Common.{◌≡◌, ℕ, suc, ◌+◌, ◌*◌, ◌<◌, ◌≤◌, ◌^◌, List, [], ◌∷◌, length, sym, ap, subst, arith, Bool, true, false, mul-le-mul_left}
+-- How great the spans of groups are at fractions within their limits, by the factors of their loss.
+use Rattle.std.proofs.Common.{◌≡◌, ℕ, zero, suc, ◌+◌, ◌*◌, ◌<◌, ◌≤◌, ◌^◌, List, [], ◌∷◌, length, sym, ap, subst, arith, Bool, true, false, cond, mul-le-mul_left}
 use Rattle.std.proofs.lemmas.Int.{ints, unsigned_abs-mul}
 use Rattle.std.proofs.lemmas.Nat.{mul-le}
+use Rattle.std.proofs.lemmas.List.Elements.{All-head, All-tail}
 use Rattle.std.proofs.lemmas.List.Sums.{sum_by-cons, sum_by-append}
-use Rattle.std.specs.Prelude.{ℤ, pos, ◌+ℤ◌, ◌-ℤ◌, ◌*ℤ◌, unsigned_abs, All, slice_get, unwrap_or}
+use Rattle.std.specs.Prelude.{ℤ, pos, negsuc, ◌+ℤ◌, ◌-ℤ◌, ◌*ℤ◌, nat_eq, unsigned_abs, All, slice_get, unwrap_or}
 use Rattle.ofit_num.specs.declared.row.Row.{Row}
 use Rattle.ofit_num.specs.Fraction.{Fraction}
 use Rattle.ofit_num.specs.Limits.{IsRowWithinLimits, total_weight, all_rows}
-use Rattle.ofit_num.specs.Loss.{residual, int_row_sum, absolute_least, absolute_greatest, squares}
+use Rattle.ofit_num.specs.Loss.{Factors, residual, factor_of, int_row_sum, absolute_least, absolute_greatest, squared_end, table_loss}
+use Rattle.ofit_num.specs.Meaning.{Meaning}
 use Rattle.ofit_num.specs.Problem.{Bounds}
 use Rattle.ofit_num.specs.Reduced.{InLimits}
 use Rattle.ofit_num.specs.Span.{is_at}
-use Rattle.ofit_loss.specs.Squares.{weighted_sum}
-use Rattle.ofit_loss.proofs.AbsoluteEnds.{once, least_size, greatest_size}
-use Rattle.ofit_loss.proofs.Sizes.{weighted_size}
-use Rattle.ofit_loss.proofs.SquaresLeast.{balance}
 use Rattle.ofit_cut.specs.declared.span.Span.{Span}
 use Rattle.ofit_cut.specs.Span.{span_at, span_size, total_span, end_or_zero}
-use Rattle.ofit_study.specs.declared.settings.LossKind.{LossKind}
-use Rattle.ofit_study.specs.declared.settings.LossKind.TheVariants.{Squares, Median}
-use Rattle.ofit_study.specs.Study.{meaning_of}
+use Rattle.ofit_study.specs.declared.loss.LossKind.{LossKind}
+use Rattle.ofit_study.specs.Loss.{IsListed, meaning_of}
+use Rattle.ofit_study.proofs.LossFactors.{of_table}
 use Rattle.ofit_cert.specs.OpenSpans.{open_end, open_span}
 
 added : (a b : ℤ) → unsigned_abs (a +ℤ b) ≤ unsigned_abs a + unsigned_abs b
@@ -28,39 +26,78 @@ added a b = omega (arith, ints)
 difference : (a b : ℤ) → unsigned_abs (a -ℤ b) ≤ unsigned_abs a + unsigned_abs b
 difference a b = omega (arith, ints)
 
--- a difference of products, by the sizes of their factors
-products : (s p : ℤ) (q w : ℕ) → unsigned_abs s ≤ 10 ^ 9 * w → unsigned_abs p ≤ 10 ^ 21 → q ≤ 10 ^ 12 → unsigned_abs (pos q *ℤ s -ℤ p *ℤ pos w) ≤ 2 * 10 ^ 21 * w
-products s p q w hs hp hq = omega (
+residual_size : (r : Row) (c : Fraction) → IsRowWithinLimits r → InLimits c → unsigned_abs (residual r c.num c.den) ≤ 2 * 10 ^ 21
+residual_size r c h l =
+    omega (arith, difference (pos c.den *ℤ r.value) c.num, unsigned_abs-mul (pos c.den) r.value, mul-le c.den (unsigned_abs r.value) (10 ^ 12) (10 ^ 9) l.den h.value, l.num)
+
+either_size : (b : Bool) (x y : ℤ) (n : ℕ) → unsigned_abs x ≤ n → unsigned_abs y ≤ n → unsigned_abs (cond b x y) ≤ n
+either_size true x y n h k = h
+either_size false x y n h k = k
+
+-- a sum whose terms are at most so much by the weights of their rows
+by_weights : (m : ℕ) (f : Row → ℤ) → (rows : List Row) → ((r : Row) → IsRowWithinLimits r → unsigned_abs (f r) ≤ m * r.weight) → All IsRowWithinLimits rows → unsigned_abs (int_row_sum f rows) ≤ m * total_weight rows
+by_weights m f [] each h = omega arith
+by_weights m f (r ∷ rows) each h = omega (
   arith,
-  difference (pos q *ℤ s) (p *ℤ pos w),
-  unsigned_abs-mul (pos q) s,
-  unsigned_abs-mul p (pos w),
-  mul-le-mul_left w hp,
-  mul-le q (unsigned_abs s) (10 ^ 12) (10 ^ 9 * w) hq hs,
+  ap (λ (n : ℕ). m * n) (sum_by-cons (λ (x : Row). x.weight) r rows),
+  each r (All-head IsRowWithinLimits r rows h),
+  by_weights m f rows each (All-tail IsRowWithinLimits r rows h),
+  added (f r) (int_row_sum f rows),
 )
 
-squares_size : (rows : List Row) (c : Fraction) → All IsRowWithinLimits rows → InLimits c → unsigned_abs (squares.least rows c.num c.den) ≤ 2 * 10 ^ 21 * total_weight rows
-squares_size rows c h l = subst (λ (z : ℤ). unsigned_abs z ≤ 2 * 10 ^ 21 * total_weight rows) (sym (balance rows c.num c.den)) (products (weighted_sum rows) c.num c.den (total_weight rows) (weighted_size rows h) l.num l.den)
+-- factors of at most 100
+module _ (f : Factors) (above : f.above ≤ 100) (below : f.below ≤ 100) where
+  factor_size : (x : ℤ) → factor_of f x ≤ 100
+  factor_size (pos zero) = below
+  factor_size (pos (suc n)) = above
+  factor_size (negsuc n) = below
 
--- a sum whose terms are at most the weights
-by_weights : (f : Row → ℤ) → ((r : Row) → unsigned_abs (f r) ≤ r.weight) → (rows : List Row) → unsigned_abs (int_row_sum f rows) ≤ total_weight rows
-by_weights f each [] = omega arith
-by_weights f each (r ∷ rows) = omega (arith, sum_by-cons (λ (x : Row). x.weight) r rows, each r, by_weights f each rows, added (f r) (int_row_sum f rows))
+  squared_size : (w : ℕ) (x : ℤ) → unsigned_abs x ≤ 2 * 10 ^ 21 → unsigned_abs (squared_end f w x) ≤ 2 * 10 ^ 23 * w
+  squared_size w x h =
+      omega (arith, unsigned_abs-mul (pos (w * factor_of f x)) x, mul-le (w * factor_of f x) (unsigned_abs x) (w * 100) (2 * 10 ^ 21) (mul-le-mul_left w (factor_size x)) h)
 
-pub least_within : (k : LossKind) (rows : List Row) (c : Fraction) → All IsRowWithinLimits rows → InLimits c → unsigned_abs ((meaning_of k).least rows c.num c.den) ≤ 2 * 10 ^ 21 * total_weight rows
-least_within Squares rows c h l = squares_size rows c h l
-least_within Median rows c h l = omega (arith, by_weights (λ r. absolute_least once r.weight (residual r c.num c.den)) (λ r. least_size r.weight (residual r c.num c.den)) rows)
+  least_size : (w : ℕ) (x : ℤ) → unsigned_abs (absolute_least f w x) ≤ 2 * 10 ^ 23 * w
+  least_size w (pos zero) = omega (arith, ints, mul-le-mul_left w below)
+  least_size w (pos (suc n)) = omega (arith, ints, mul-le-mul_left w above)
+  least_size w (negsuc n) = omega (arith, ints, mul-le-mul_left w below)
 
-pub greatest_within : (k : LossKind) (rows : List Row) (c : Fraction) → All IsRowWithinLimits rows → InLimits c → unsigned_abs ((meaning_of k).greatest rows c.num c.den) ≤ 2 * 10 ^ 21 * total_weight rows
-greatest_within Squares rows c h l = squares_size rows c h l
-greatest_within Median rows c h l = omega (arith, by_weights (λ r. absolute_greatest once r.weight (residual r c.num c.den)) (λ r. greatest_size r.weight (residual r c.num c.den)) rows)
+  greatest_size : (w : ℕ) (x : ℤ) → unsigned_abs (absolute_greatest f w x) ≤ 2 * 10 ^ 23 * w
+  greatest_size w (pos zero) = omega (arith, ints, mul-le-mul_left w above)
+  greatest_size w (pos (suc n)) = omega (arith, ints, mul-le-mul_left w above)
+  greatest_size w (negsuc n) = omega (arith, ints, mul-le-mul_left w below)
+
+  table_least : (d : ℕ) (rows : List Row) (c : Fraction) → All IsRowWithinLimits rows → InLimits c → unsigned_abs ((table_loss d f).least rows c.num c.den) ≤ 2 * 10 ^ 23 * total_weight rows
+  table_least d rows c h l =
+      by_weights (2 * 10 ^ 23) (λ r. cond (nat_eq d 1) (absolute_least f r.weight (residual r c.num c.den)) (squared_end f r.weight (residual r c.num c.den))) rows
+      (λ r k. either_size (nat_eq d 1) _ _ _ (least_size r.weight (residual r c.num c.den)) (squared_size r.weight (residual r c.num c.den) (residual_size r c k l))) h
+
+  table_greatest : (d : ℕ) (rows : List Row) (c : Fraction) → All IsRowWithinLimits rows → InLimits c → unsigned_abs ((table_loss d f).greatest rows c.num c.den) ≤ 2 * 10 ^ 23 * total_weight rows
+  table_greatest d rows c h l =
+      by_weights (2 * 10 ^ 23) (λ r. cond (nat_eq d 1) (absolute_greatest f r.weight (residual r c.num c.den)) (squared_end f r.weight (residual r c.num c.den))) rows
+      (λ r k. either_size (nat_eq d 1) _ _ _ (greatest_size r.weight (residual r c.num c.den)) (squared_size r.weight (residual r c.num c.den) (residual_size r c k l))) h
+
+pub least_within : (k : LossKind) → IsListed k → (rows : List Row) (c : Fraction) → All IsRowWithinLimits rows → InLimits c → unsigned_abs ((meaning_of k).least rows c.num c.den) ≤ 2 * 10 ^ 23 * total_weight rows
+least_within k listed rows c h l =
+    let t = of_table k listed in
+    subst (λ (m : Meaning). unsigned_abs (m.least rows c.num c.den) ≤ 2 * 10 ^ 23 * total_weight rows) (sym t.same) (table_least t.factors t.above t.below t.degree rows c h l)
+
+pub greatest_within : (k : LossKind) → IsListed k → (rows : List Row) (c : Fraction) → All IsRowWithinLimits rows → InLimits c → unsigned_abs ((meaning_of k).greatest rows c.num c.den) ≤ 2 * 10 ^ 23 * total_weight rows
+greatest_within k listed rows c h l =
+    let t = of_table k listed in
+    subst (λ (m : Meaning). unsigned_abs (m.greatest rows c.num c.den) ≤ 2 * 10 ^ 23 * total_weight rows) (sym t.same) (table_greatest t.factors t.above t.below t.degree rows c h l)
 
 end_size : (b : Bool) (z : ℤ) → unsigned_abs (end_or_zero (open_end b z)) ≤ unsigned_abs z
 end_size true z = omega arith
 end_size false z = omega arith
 
-pub open_span_within : (k : LossKind) (rows : List Row) (bounds : Bounds) (c : Fraction) → All IsRowWithinLimits rows → InLimits c → span_size (open_span (meaning_of k) rows bounds c) ≤ 2 * 10 ^ 21 * total_weight rows
-open_span_within k rows bounds c h l = omega (arith, end_size (is_at bounds.hi c.num c.den) ((meaning_of k).least rows c.num c.den), end_size (is_at bounds.lo c.num c.den) ((meaning_of k).greatest rows c.num c.den), least_within k rows c h l, greatest_within k rows c h l)
+pub open_span_within : (k : LossKind) → IsListed k → (rows : List Row) (bounds : Bounds) (c : Fraction) → All IsRowWithinLimits rows → InLimits c → span_size (open_span (meaning_of k) rows bounds c) ≤ 2 * 10 ^ 23 * total_weight rows
+open_span_within k listed rows bounds c h l = omega (
+  arith,
+  end_size (is_at bounds.hi c.num c.den) ((meaning_of k).least rows c.num c.den),
+  end_size (is_at bounds.lo c.num c.den) ((meaning_of k).greatest rows c.num c.den),
+  least_within k listed rows c h l,
+  greatest_within k listed rows c h l,
+)
 
 -- spans that are at most so much by the weights of their groups
 pub total_within : (m : ℕ) (spans : List Span) (groups : List (List Row)) → length spans ≡ length groups

@@ -1,22 +1,12 @@
--- One element more of a list that is filtered.
-use Rattle.std.proofs.Common.{◌≡◌, ℕ, ◌+◌, ◌<◌, List, [], ◌∷◌, ◌++◌, length, take, get_or, sym, ap, ap₂, ◌∙◌, arith, Bool, true, false, cond, map}
-use Rattle.std.proofs.lemmas.List.{map-append, append-nil, take_more, get_or_default}
-use Rattle.std.proofs.lemmas.List.Elements.{filter_more}
+-- A value and an amount more.
+use Rattle.std.proofs.Common.{◌≡◌, ℕ, ◌+◌, ◌<◌, List, [], ◌∷◌, ◌++◌, length, take, get_or, sym, ap, ap₂, ◌∙◌, arith, true, false, map}
+use Rattle.std.proofs.lemmas.List.{map-append, take_more, get_or_default}
 use Rattle.std.proofs.lemmas.List.FromFn.{length-enumerate_from, get_or-enumerate_from}
 use Rattle.std.proofs.lemmas.Slice.Zip.{get_or-zip, length-zip}
 use Rattle.std.specs.List.{filter, zip, enumerate_from}
 use Rattle.std.specs.Prelude.{ℤ, pos}
+use Rattle.ofit_num.proofs.Lists.{filter_kept, filter_left}
 use Rattle.ofit_cert.specs.TightFlows.{is_above_zero}
-
-module _ {X : Type 0} (p : X → Bool) (xs : List X) (i : ℕ) (x : X) (l : i < length xs) (at : get_or xs i x ≡ x) where
-  one_more : filter p (take (i + 1) xs) ≡ filter p (take i xs) ++ cond (p x) (x ∷ []) []
-  one_more = filter_more p xs i x l ∙ ap (λ (y : X). filter p (take i xs) ++ cond (p y) (y ∷ []) []) at
-
-  pub filter_kept : p x ≡ true → filter p (take (i + 1) xs) ≡ filter p (take i xs) ++ x ∷ []
-  filter_kept e = one_more ∙ ap (λ (b : Bool). filter p (take i xs) ++ cond b (x ∷ []) []) e
-
-  pub filter_left : p x ≡ false → filter p (take (i + 1) xs) ≡ filter p (take i xs)
-  filter_left e = one_more ∙ ap (λ (b : Bool). filter p (take i xs) ++ cond b (x ∷ []) []) e ∙ append-nil (filter p (take i xs))
 
 -- a value more with its place
 pub entry_more : {X : Type 0} (values : List X) (k : ℕ) (value : X) → k < length values → value ≡ get_or values k value → take k (enumerate_from 0 values) ++ (k, value) ∷ [] ≡ take (k + 1) (enumerate_from 0 values)

@@ -1,5 +1,5 @@
 -- The spans of groups at their values, open where a bound bars the move.
-use Rattle.std.specs.Prelude.{◌≡◌, ◌<◌, ℕ, Bool, true, false, List, length, Option, Some, None, ℤ}
+use Rattle.std.specs.Prelude.{◌≡◌, ◌<◌, ℕ, List, length}
 use Rattle.ofit_num.specs.declared.row.Row.{Row}
 use Rattle.ofit_num.specs.Fraction.{Fraction}
 use Rattle.ofit_num.specs.Meaning.{Meaning}
@@ -7,12 +7,8 @@ use Rattle.ofit_num.specs.Problem.{Problem, Bounds}
 use Rattle.ofit_num.specs.Span.{is_at}
 use Rattle.ofit_cut.specs.declared.span.Span.{Span}
 use Rattle.ofit_cut.specs.Span.{span_at}
+pub use Rattle.ofit_span.specs.OpenSpan.{open_end}
 use Rattle.ofit_cert.specs.Tight.{own}
-
--- the end of a span, which is open at the bound
-abbrev pub open_end : Bool → ℤ → Option ℤ
-open_end true end = None
-open_end false end = Some end
 
 -- the span of rows at a value: its least end is open at the upper bound, its greatest one at the lower bound
 abbrev pub open_span : Meaning → List Row → Bounds → Fraction → Span

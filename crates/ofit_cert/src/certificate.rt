@@ -11,11 +11,10 @@ ghost use Rattle.ofit_cert.specs.TightFlows.{Certify, TellsOfGroups};
 use crate::entries::entries_of;
 use crate::flows::flows_of;
 use crate::spans::spans_of;
-use crate::tight::tight_pairs;
 use ofit_cut::{Amounts, Balanced, balance_flow};
 use ofit_num::Frac;
 use ofit_sheet::{Sheet, Size};
-use ofit_study::Study;
+use ofit_study::{Study, tight_pairs};
 use std::alloc::{AllocError, Global};
 
 /// Flows along the tight pairs whose balances are in the groups' open spans, or a set of groups that
@@ -31,7 +30,7 @@ pub(crate) fn balance_of(
     ensures told { IfOk result (TellsOfGroups (meaning_of study.now.settings.loss) (problem_stated study.now) values.now pairs.now) }
     ensures fractions { IfOk result (λ answer. All IsFractionInLimits values.now) }
 {
-    let _groups = study.group_count();
+    study.keeps_limits();
     let spans = spans_of(alloc, study, values)?;
     balance_flow(alloc, pairs, spans.as_slice())
 }
@@ -49,7 +48,7 @@ fn balanced_amounts(
     ensures certify { IfOk result (Certify (meaning_of study.now.settings.loss) (problem_stated study.now) values.now pairs.now) }
     ensures fractions { IfOk result (λ amounts. All IsFractionInLimits values.now) }
 {
-    let _groups = study.group_count();
+    study.keeps_limits();
     match balance_of(alloc, study, values, pairs)? {
         Balanced::Flows(amounts) => Ok(amounts),
         Balanced::Above(_) => unreachable!(),
@@ -84,7 +83,7 @@ pub fn certify(alloc: Global, study: &Study, values: &[Frac]) -> Result<Sheet, A
     ensures values { IfOk result (λ x. sheet_values x ≡ values.now) }
     ensures sized { IfOk result (λ x. IsSome x.size) }
 {
-    let _groups = study.group_count();
+    study.keeps_limits();
     let pairs = tight_pairs(alloc, study, values)?;
     let amounts = balanced_amounts(alloc, study, values, pairs.as_slice())?;
     let flows = flows_of(alloc, pairs.as_slice(), &amounts)?;

@@ -11,7 +11,6 @@ mod entries;
 mod flows;
 mod laws;
 mod spans;
-mod tight;
 
 pub use certificate::certify;
 pub use laws::best_values_are_not_barred;

@@ -1,7 +1,7 @@
 -- the stack of the chain's fit: how a new group's block absorbs the blocks before it
 use Rattle.std.proofs.Common.{◌≡◌, ℕ, zero, suc, ◌+◌, ◌<◌, ◌≤◌, refl, sym, ap, subst, ◌∙◌, arith, Bool, false, List, [], ◌∷◌, ◌++◌, map, length, take, replicate, get_or, append-nil, append_assoc, add-one, ◌⊎◌, inl, inr}
 use Rattle.std.proofs.lemmas.Int.{ints, by_lt_z}
-use Rattle.std.proofs.lemmas.Option.{slice_get_read}
+use Rattle.std.proofs.lemmas.Option.{slice_get_read, same_Some}
 use Rattle.std.proofs.lemmas.List.{take_all}
 use Rattle.std.specs.Prelude.{pos, ◌*ℤ◌, All, slice_get, Some}
 use Rattle.ofit_num.specs.declared.row.Row.{Row}
@@ -26,7 +26,7 @@ use Rattle.ofit_chain.specs.Chain.{chain_pairs, chain_problem}
 use Rattle.ofit_chain.specs.Stretch.{run, Stretch, IsStretch, AreStretches, Rise, groups_in, values_of}
 use Rattle.ofit_loss.specs.Pool.{CanMerge}
 use Rattle.ofit_chain.specs.Covers.{rows_in, stretch_of, IsBlockAt, AreBlocks, Covers}
-use Rattle.ofit_chain.proofs.Runs.{lone_block, lone_steep, absorbed_run, absorbed_steep}
+use Rattle.ofit_chain.proofs.Runs.{lone_run, lone_run_steep, absorbed_run, absorbed_steep}
 use Rattle.ofit_chain.proofs.Values.{values_least_best, values_settled, values_least_settled}
 use Rattle.ofit_chain.proofs.Rows.{rows_in-one, rows_in-add, fittable_in, some_in, pooled_in, costs_in}
 
@@ -148,8 +148,8 @@ lone_stretch m s chain strict i t n one top pooled costs limit den within = (
     ends = ends;
     reaches = omega arith;
     limit = limit;
-    block = lone_block m s chain strict i t limit top (subst (λ (k : ℕ). IsPooled m s (run i k) t) ends pooled) (subst (λ (k : ℕ). IsCost strict (set_sum (run i k) (greatest_at m s t) s.count)) ends costs) den within;
-    steep = lone_steep m s chain strict i t limit top (subst (λ (k : ℕ). IsPooled m s (run i k) t) ends pooled) (subst (λ (k : ℕ). IsCost strict (set_sum (run i k) (greatest_at m s t) s.count)) ends costs) den within;
+    block = lone_run m s chain strict i t limit top (subst (λ (k : ℕ). IsPooled m s (run i k) t) ends pooled) (subst (λ (k : ℕ). IsCost strict (set_sum (run i k) (greatest_at m s t) s.count)) ends costs) den within;
+    steep = lone_run_steep m s chain strict i t limit top (subst (λ (k : ℕ). IsPooled m s (run i k) t) ends pooled) (subst (λ (k : ℕ). IsCost strict (set_sum (run i k) (greatest_at m s t) s.count)) ends costs) den within;
   },
   refl,
 ) where
@@ -259,13 +259,10 @@ module _ {P : Type 0} (IsPoolOf : P → List Row → Type 0) (m : Meaning) (stri
   }
 
 -- the values of one more block
-same_some : {X : Type 0} (x y : X) → Some x ≡ Some y → x ≡ y
-same_some x y e = cc
-
 values_upto : {P : Type 0} (bs : List (Block P)) (k : ℕ) (b : Block P) → slice_get bs k ≡ Some b
     → values_of (map stretch_of (take (suc k) bs)) ≡ values_of (map stretch_of (take k bs)) ++ replicate b.groups b.value
 values_upto [] k b e = cc
-values_upto {P} (c ∷ bs) zero b e = append-nil (replicate c.groups c.value) ∙ ap (λ (x : Block P). replicate x.groups x.value) (same_some c b e)
+values_upto {P} (c ∷ bs) zero b e = append-nil (replicate c.groups c.value) ∙ ap (λ (x : Block P). replicate x.groups x.value) (same_Some c b e)
 values_upto (c ∷ bs) (suc k) b e =
     ap (λ (xs : List Fraction). replicate c.groups c.value ++ xs) (values_upto bs k b e)
     ∙ sym (append_assoc (replicate c.groups c.value) (values_of (map stretch_of (take k bs))) (replicate b.groups b.value))

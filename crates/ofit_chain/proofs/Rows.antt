@@ -1,8 +1,7 @@
 -- the rows of neighbouring groups, and their balances
-use Rattle.std.proofs.Common.{◌≡◌, ℕ, zero, suc, ◌+◌, ◌<◌, ◌≤◌, refl, sym, ap, subst, ◌∙◌, arith, List, [], ◌∷◌, ◌++◌, length, take, drop, append_assoc, length-append, length-drop, get_or}
+use Rattle.std.proofs.Common.{◌≡◌, ℕ, zero, suc, ◌+◌, ◌<◌, ◌≤◌, refl, sym, ap, subst, ◌∙◌, arith, List, [], ◌∷◌, ◌++◌, length, take, drop, append_assoc, length-append, length-drop}
 use Rattle.std.proofs.lemmas.Int.{ints}
 use Rattle.std.proofs.lemmas.List.{drop-drop}
-use Rattle.std.proofs.lemmas.Option.{slice_get-get_or}
 use Rattle.std.proofs.lemmas.List.Elements.{All-head, All-drop}
 use Rattle.std.specs.Prelude.{Bool, ℤ, pos, ◌+ℤ◌, All, slice_get, Some, unwrap_or}
 use Rattle.ofit_num.specs.declared.row.Row.{Row}
@@ -14,7 +13,7 @@ use Rattle.ofit_num.specs.Law.{greatest_at}
 use Rattle.ofit_num.specs.Sets.{set_sum}
 use Rattle.ofit_num.specs.Block.{IsPooled, IsCost}
 use Rattle.ofit_num.proofs.Blocks.{set_sum-none}
-use Rattle.ofit_num.proofs.RowLists.{all_rows-take_more}
+use Rattle.ofit_num.proofs.RowLists.{all_rows-take_more, group_at}
 use Rattle.ofit_loss.specs.Rows.{AreFittable}
 use Rattle.ofit_loss.specs.Laws.{HasLossLaws}
 use Rattle.ofit_loss.specs.Least.{IsLeastMinimiser}
@@ -52,9 +51,6 @@ slice_get-drop [] (suc i) k = refl
 slice_get-drop (r ∷ gs) (suc i) k = slice_get-drop gs i k ∙ ap (slice_get (r ∷ gs)) (plus i k) where
   plus : (n k : ℕ) → suc (n + k) ≡ suc n + k
   plus n k = omega arith
-
-pub group_at : (gs : RowLists) (k : ℕ) → k < length gs → (rows : List Row) × (slice_get gs k ≡ Some rows)
-group_at gs k l = (get_or gs k [], slice_get-get_or gs k [] l)
 
 rows_in-more : (groups : RowLists) (i n : ℕ) (rows : List Row) → slice_get groups (i + n) ≡ Some rows → rows_in groups i (suc n) ≡ rows_in groups i n ++ rows
 rows_in-more groups i n rows e = all_rows-take_more (drop i groups) n rows (slice_get-drop groups i n ∙ e)

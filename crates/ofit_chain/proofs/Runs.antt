@@ -3,8 +3,11 @@ use Rattle.std.proofs.Common.{◌≡◌, ℕ, zero, suc, ◌+◌, ◌-◌, ◌<�
 use Rattle.std.proofs.lemmas.Int.{ints}
 use Rattle.std.proofs.lemmas.Bool.{cases_order}
 use Rattle.std.proofs.lemmas.Bool.Decides.{nat_tests}
+use Rattle.std.proofs.lemmas.List.{map-append}
 use Rattle.std.proofs.lemmas.List.Elements.{All-nil, All-push, All-contains, Contains-push, Contains-append_left}
-use Rattle.std.specs.Prelude.{ℤ, pos, ◌+ℤ◌, ◌≤ℤ◌, ◌<ℤ◌, All, Contains}
+use Rattle.std.specs.List.{range_with_len}
+use Rattle.std.specs.Prelude.{List, map, ℤ, pos, ◌+ℤ◌, ◌≤ℤ◌, ◌<ℤ◌, All, Contains}
+use Rattle.ofit_num.specs.Pairs.{rising_to}
 use Rattle.ofit_num.specs.Problem.{Problem}
 use Rattle.ofit_num.specs.Meaning.{Meaning}
 use Rattle.ofit_num.specs.Fraction.{Fraction, AtMost, Below}
@@ -14,40 +17,53 @@ use Rattle.ofit_num.specs.Steep.{IsSteep}
 use Rattle.ofit_num.specs.Block.{IsPooled, IsBlock, IsCost}
 use Rattle.ofit_num.proofs.Blocks.{absorbed, member_or_none, set_sum-none, set_sum-equal, below_trans}
 use Rattle.ofit_num.proofs.Pieces.{and_both, both_and, meet, set_sum-split}
-use Rattle.ofit_chain.specs.Chain.{steps, chain_pairs}
+use Rattle.ofit_num.proofs.Ranges.{range-push}
+use Rattle.ofit_chain.specs.Chain.{chain_pairs}
 use Rattle.ofit_chain.specs.Stretch.{run}
+use Rattle.ofit_num.proofs.Division.{same_test}
+use Rattle.ofit_num.proofs.LoneBlocks.{lone_block, lone_steep}
 
 -- the pairs of a chain are those of each place with the next
-steps_contains : (n k : ℕ) → k < n → Contains (steps n) (k, suc k)
+rising_push : (n : ℕ) → rising_to (suc n) ≡ rising_to n ++ (n, suc n) ∷ []
+rising_push n =
+    ap (map (λ (i : ℕ). (i, i + 1))) (range-push 0 n) ∙ map-append (λ (i : ℕ). (i, i + 1)) (range_with_len 0 n) ((0 + n) ∷ [])
+    ∙ ap (λ (i : ℕ). rising_to n ++ (i, i + 1) ∷ []) (from_zero n) ∙ ap (λ (i : ℕ). rising_to n ++ (n, i) ∷ []) (next n) where
+      from_zero : (k : ℕ) → 0 + k ≡ k
+      from_zero k = omega arith
+
+      next : (k : ℕ) → k + 1 ≡ suc k
+      next k = omega arith
+
+steps_contains : (n k : ℕ) → k < n → Contains (rising_to n) (k, suc k)
 steps_contains zero k l = absurd (omega arith)
-steps_contains (suc n) k l = elim (cases_order k n) [
-  | inl e ↦ subst (λ (i : ℕ). Contains (steps n ++ (n, suc n) ∷ []) (i, suc i)) (sym e) (Contains-push (steps n) (n, suc n))
+steps_contains (suc n) k l = subst (λ (ps : List (ℕ × ℕ)). Contains ps (k, suc k)) (sym (rising_push n)) (elim (cases_order k n) [
+  | inl e ↦ subst (λ (i : ℕ). Contains (rising_to n ++ (n, suc n) ∷ []) (i, suc i)) (sym e) (Contains-push (rising_to n) (n, suc n))
   | inr o ↦ elim o [
-    | inl b ↦ Contains-append_left (steps n) ((n, suc n) ∷ []) (k, suc k) (steps_contains n k b)
+    | inl b ↦ Contains-append_left (rising_to n) ((n, suc n) ∷ []) (k, suc k) (steps_contains n k b)
     | inr b ↦ absurd (omega arith)
   ]
-]
+])
 
-steps_all : (P : ℕ × ℕ → Type 0) (n : ℕ) → ((k : ℕ) → k < n → P (k, suc k)) → All P (steps n)
+steps_all : (P : ℕ × ℕ → Type 0) (n : ℕ) → ((k : ℕ) → k < n → P (k, suc k)) → All P (rising_to n)
 steps_all P zero h = All-nil P
-steps_all P (suc n) h = All-push P (steps n) (n, suc n) (steps_all P n (λ k l. h k (omega arith))) (h n (omega arith))
+steps_all P (suc n) h = subst (All P) (sym (rising_push n)) (All-push P (rising_to n) (n, suc n) (steps_all P n (λ k l. h k (omega arith))) (h n (omega arith)))
+
+one_less : (n : ℕ) → suc n - 1 ≡ n
+one_less n = omega arith
 
 pub pair_at : (P : ℕ × ℕ → Type 0) (n : ℕ) → All P (chain_pairs n) → (k : ℕ) → suc k < n → P (k, suc k)
 pair_at P zero h k l = absurd (omega arith)
-pair_at P (suc n) h k l = All-contains P (steps n) (k, suc k) h (steps_contains n k (omega arith))
+pair_at P (suc n) h k l =
+    All-contains P (chain_pairs (suc n)) (k, suc k) h (subst (λ (m : ℕ). Contains (rising_to m) (k, suc k)) (sym (one_less n)) (steps_contains n k (omega arith)))
 
 pub each_pair : (P : ℕ × ℕ → Type 0) (n : ℕ) → ((k : ℕ) → suc k < n → P (k, suc k)) → All P (chain_pairs n)
 each_pair P zero h = All-nil P
-each_pair P (suc n) h = steps_all P n (λ k l. h k (omega arith))
+each_pair P (suc n) h = subst (λ (m : ℕ). All P (rising_to m)) (sym (one_less n)) (steps_all P n (λ k l. h k (omega arith)))
 
--- a test is false where it isn't true, and two tests are equal where each holds with the other
+-- a test is false where it isn't true
 pub untrue : (x : Bool) → (x ≡ true → ⊥) → x ≡ false
 untrue false h = refl
 untrue true h = absurd (h refl)
-
-same_test : (x y : Bool) → (x ≡ true → y ≡ true) → (y ≡ true → x ≡ true) → x ≡ y
-same_test true y f h = sym (f refl)
-same_test false y f h = sym (untrue y (λ e. cc (h e)))
 
 pub clash : (x : Bool) → x ≡ true → x ≡ false → ⊥
 clash x e f = cc
@@ -165,32 +181,14 @@ module _ (m : Meaning) (s : Problem) (chain : s.pairs ≡ chain_pairs s.count) w
   -- A lone group is a block with any limit.
   module _ (strict : Bool) (k : ℕ) (value limit : Fraction) (top : k < s.count) (pooled : IsPooled m s (run k (suc k)) value)
       (pooled_costs : IsCost strict (set_sum (run k (suc k)) (greatest_at m s value) s.count)) (limit_den : 0 < limit.den) (within : AtMost value limit) where
-    lone : (a : ℕ → Bool) → IsWithin s (run k (suc k)) a → (g : ℕ) → g < s.count → a g ≡ true → a k ≡ true
-    lone a inside g l e =
-        let both : (k ≤ g) × (g < suc k) = from_run k (suc k) g (inside.each g l e) in
-        subst (λ (n : ℕ). a n ≡ true) (omega (arith, both.0, both.1)) e
+    alone : (g : ℕ) → g < s.count → run k (suc k) g ≡ true → g ≡ k
+    alone g l u = omega (arith, (from_run k (suc k) g u).0, (from_run k (suc k) g u).1)
 
-    lone_raised : (a : ℕ → Bool) → IsWithin s (run k (suc k)) a → (x : Bool) → a k ≡ x → set_sum a (least_at m s value) s.count ≤ℤ pos 0
-    lone_raised a inside true e = subst (λ (z : ℤ). z ≤ℤ pos 0) (set_sum-equal (run k (suc k)) a (least_at m s value) s.count same) pooled.least where
-      same : (g : ℕ) → g < s.count → run k (suc k) g ≡ a g
-      same g l = same_test _ _ (λ u. subst (λ (n : ℕ). a n ≡ true) (omega (arith, (from_run k (suc k) g u).0, (from_run k (suc k) g u).1)) e) (λ u. inside.each g l u)
-    lone_raised a inside false e = omega (arith, ints, set_sum-none a (least_at m s value) s.count (λ g l. untrue (a g) (λ u. clash (a k) (lone a inside g l u) e)))
+    pub lone_run : IsBlock m s strict (run k (suc k)) k value limit
+    lone_run = lone_block m s strict (run k (suc k)) k value limit top (in_run k (suc k) k (omega arith) (omega arith)) alone pooled pooled_costs limit_den within
 
-    pub lone_block : IsBlock m s strict (run k (suc k)) k value limit
-    lone_block = record {
-      top_below = top;
-      top_in = in_run k (suc k) k (omega arith) (omega arith);
-      reaches = λ a inside up g l e. lone a inside g l e;
-      pooled = pooled;
-      pooled_costs = pooled_costs;
-      limit_den = limit_den;
-      within = within;
-      raised = λ a inside up. lone_raised a inside (a k) refl;
-      costs = λ b inside low out g l e. absurd (clash (b k) (lone b inside g l e) out);
-    }
-
-    pub lone_steep : IsSteep m s (run k (suc k)) k limit
-    lone_steep = record { gains = λ b lb below a inside low out g l e. absurd (clash (a k) (lone a inside g l e) out) }
+    pub lone_run_steep : IsSteep m s (run k (suc k)) k limit
+    lone_run_steep = lone_steep m s strict (run k (suc k)) k value limit top (in_run k (suc k) k (omega arith) (omega arith)) alone pooled pooled_costs limit_den within
 
   -- a lower set of a run that has a place has each earlier one
   sinks : (i j : ℕ) (a : ℕ → Bool) → j < s.count → IsLowerIn s (run i (suc j)) a → (g d : ℕ) → i ≤ g → g + d ≤ j → a (g + d) ≡ true → a g ≡ true

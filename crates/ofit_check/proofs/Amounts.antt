@@ -12,6 +12,7 @@ use Rattle.ofit_num.specs.Verdict.{AllBelow, IsOnPair, IsInOrder, StandsBefore}
 use Rattle.std.specs.Ordering.{nat_cmp, is_lt}
 use Rattle.ofit_check.specs.Check.{amount_along}
 use Rattle.ofit_check.proofs.Comparing.{less_told}
+use Rattle.ofit_num.proofs.Pieces.{and_both}
 
 abbrev pub pair_of : Flow → ℕ × ℕ
 pair_of f = (f.low, f.high)
@@ -25,13 +26,9 @@ equal_numbers a b e = grind (arith, nat_tests)
 same_numbers : (a b : ℕ) → a ≡ b → nat_eq a b ≡ true
 same_numbers a b e = grind (arith, nat_tests)
 
-both_true : (a b : Bool) → (a && b) ≡ true → (a ≡ true) × (b ≡ true)
-both_true true b e = (refl, e)
-both_true false b e = cc
-
 pub along_same : (e : ℕ × ℕ) (f : Flow) → is_along e f ≡ true → pair_of f ≡ e
 along_same e f h =
-    let t = both_true (nat_eq f.low e.0) (nat_eq f.high e.1) h in
+    let t = and_both (nat_eq f.low e.0) (nat_eq f.high e.1) h in
     ap₂ (λ (a b : ℕ). (a, b)) (equal_numbers f.low e.0 t.0) (equal_numbers f.high e.1 t.1)
 
 pub same_along : (e : ℕ × ℕ) (f : Flow) → pair_of f ≡ e → is_along e f ≡ true
@@ -90,6 +87,10 @@ contained_at pairs e h = (h.0, slice_get-get_or pairs h.0 e h.1 ∙ ap Some h.2)
 pub at_index : (P : Flow → Type 0) (flows : List Flow) (j : ℕ) (f : Flow) → IfSome (slice_get flows j) P → slice_get flows j ≡ Some f → P f
 at_index P flows j f h e = subst (λ (o : Option Flow). IfSome o P) e h
 
+-- each flow is on its pair
+pub flow_on_pair : {S : Type 0} (s : Problem) (x : Sheet S) → AllBelow (IsOnPair s x) (length x.flows) → (j : ℕ) (f : Flow) → slice_get x.flows j ≡ Some f → Contains s.pairs (pair_of f)
+flow_on_pair s x on_pairs j f e = at_index (λ h. Contains s.pairs (h.low, h.high)) x.flows j f (on_pairs j (slice_get_within x.flows j f e)) e
+
 -- flows whose pairs come before the one at an index, and after it
 abbrev pub AreBefore : List Flow → List (ℕ × ℕ) → ℕ → ℕ → Type 0
 AreBefore flows pairs i end = (j : ℕ) (f : Flow) (k : ℕ) → j < end → slice_get flows j ≡ Some f → slice_get pairs k ≡ Some (pair_of f) → k < i
@@ -99,7 +100,7 @@ AreAfter flows pairs i from = (j : ℕ) (f : Flow) (k : ℕ) → from ≤ j → 
 
 module _ {S : Type 0} (s : Problem) (x : Sheet S) (distinct : HasDistinctPairs s) (on_pairs : AllBelow (IsOnPair s x) (length x.flows)) (in_order : AllBelow (IsInOrder s x) (length x.flows)) where
   pub flow_index : (j : ℕ) (f : Flow) → slice_get x.flows j ≡ Some f → (k : ℕ) × (slice_get s.pairs k ≡ Some (pair_of f))
-  flow_index j f e = contained_at s.pairs (pair_of f) (at_index (λ h. Contains s.pairs (h.low, h.high)) x.flows j f (on_pairs j (slice_get_within x.flows j f e)) e)
+  flow_index j f e = contained_at s.pairs (pair_of f) (flow_on_pair s x on_pairs j f e)
 
   next_index : (j : ℕ) (f h : Flow) (k m : ℕ) → slice_get x.flows j ≡ Some f → slice_get x.flows (suc j) ≡ Some h → slice_get s.pairs k ≡ Some (pair_of f) → slice_get s.pairs m ≡ Some (pair_of h) → k < m
   next_index j f h k m a b c d =

@@ -4,3 +4,8 @@ pub mod Comparing
 pub mod Missing
 pub mod Passed
 pub mod Reading
+pub mod PeakLower
+pub mod PeakPassed
+pub mod PeakSteps
+pub mod PeakCosts
+pub mod PeakSides

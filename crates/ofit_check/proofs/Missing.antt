@@ -1,43 +1,24 @@
 -- The first place that a list of values with rising places leaves out.
-use Rattle.std.proofs.Common.{◌≡◌, ◌≢◌, ℕ, zero, suc, ◌<◌, ◌≤◌, ◌⊎◌, inl, inr, refl, sym, ap, subst, ◌∙◌, arith, List, [], ◌∷◌, length, cond, nat_eq, Bool, true, false, get_or}
+use Rattle.std.proofs.Common.{◌≡◌, ◌≢◌, ℕ, zero, suc, ◌<◌, ◌≤◌, ◌⊎◌, inl, inr, refl, sym, ap, subst, ◌∙◌, arith, List, [], ◌∷◌, length, get_or}
 use Rattle.std.proofs.lemmas.Bool.{cases_order}
-use Rattle.std.proofs.lemmas.Bool.Decides.{nat_tests}
-use Rattle.std.proofs.lemmas.List.Elements.{All-head, All-tail}
 use Rattle.std.proofs.lemmas.Option.{slice_get-get_or, same_Some}
 use Rattle.std.specs.Prelude.{All, AllPairs, slice_get, Option, Some, None, IsSome}
 use Rattle.ofit_num.specs.Fraction.{Fraction}
 use Rattle.ofit_num.specs.Sheet.{Entry, Sheet, FitsCount, entry_value}
 use Rattle.ofit_num.specs.Verdict.{HasValue, FailsFirst}
 use Rattle.ofit_num.proofs.Lists.{All-slice_get}
-use Rattle.ofit_num.proofs.Sheets.{AllPairs-head, AllPairs-tail}
+use Rattle.ofit_num.proofs.Sheets.{AllPairs-head, AllPairs-tail, here_value, later_value, no_value, not_some}
 use Rattle.ofit_check.specs.Check.{IsAtPlace}
-
-equal_places : (g k : ℕ) → g ≡ k → nat_eq g k ≡ true
-equal_places g k e = grind (arith, nat_tests)
-
-other_places : (g k : ℕ) → g ≢ k → nat_eq g k ≡ false
-other_places g k d = grind (arith, nat_tests)
-
-first_value : (e : Entry) (es : List Entry) (g : ℕ) → e.place ≡ g → entry_value (e ∷ es) g ≡ Some e.value
-first_value e es g h = ap (λ (b : Bool). cond b (Some e.value) (entry_value es g)) (equal_places e.place g h)
-
-rest_value : (e : Entry) (es : List Entry) (g : ℕ) → e.place ≢ g → entry_value (e ∷ es) g ≡ entry_value es g
-rest_value e es g h = ap (λ (b : Bool). cond b (Some e.value) (entry_value es g)) (other_places e.place g h)
 
 -- an entry gives its place its value
 value_at : (es : List Entry) → AllPairs (λ e f. e.place < f.place) es → (k : ℕ) (e : Entry) → slice_get es k ≡ Some e → entry_value es e.place ≡ Some e.value
 value_at [] r k e h = cc
 value_at (d ∷ es) r zero e h =
     let same : d ≡ e = same_Some d e h in
-    first_value d es e.place (ap (λ (t : Entry). t.place) same) ∙ ap (λ (t : Entry). Some t.value) same
+    here_value d es e.place (ap (λ (t : Entry). t.place) same) ∙ ap (λ (t : Entry). Some t.value) same
 value_at (d ∷ es) r (suc k) e h =
     let later : d.place < e.place = All-slice_get (λ f. d.place < f.place) es k e (AllPairs-head (λ e f. e.place < f.place) d es r) h in
-    rest_value d es e.place (λ same. omega arith) ∙ value_at es (AllPairs-tail (λ e f. e.place < f.place) d es r) k e h
-
--- a place that no entry has gets none
-no_value : (es : List Entry) (g : ℕ) → All (λ e. e.place ≢ g) es → entry_value es g ≡ None
-no_value [] g h = refl
-no_value (e ∷ es) g h = rest_value e es g (All-head (λ f. f.place ≢ g) e es h) ∙ no_value es g (All-tail (λ f. f.place ≢ g) e es h)
+    later_value d es e.place (λ same. omega arith) ∙ value_at es (AllPairs-tail (λ e f. e.place < f.place) d es r) k e h
 
 -- rising places are at least their indexes
 at_least : (es : List Entry) → AllPairs (λ e f. e.place < f.place) es → (j : ℕ) (d : Entry) → j < length es → j ≤ (get_or es j d).place
@@ -48,9 +29,6 @@ some_is : (o : Option Fraction) (f : Fraction) → o ≡ Some f → IsSome o
 some_is None f e = cc
 some_is (Some g) f e = refl
 
-none_is : (o : Option Fraction) → o ≡ None → IsSome o → ⊥
-none_is o e h = cc
-
 module _ {S : Type 0} (n : ℕ) (x : Sheet S) (fits : FitsCount n x) where
   pub present : (k : ℕ) → IsAtPlace x k → HasValue x k
   present k h = subst (λ (t : ℕ). HasValue x t) h.2 (some_is (entry_value x.values h.0.place) h.0.value (value_at x.values fits.rising k h.0 h.1))
@@ -59,7 +37,7 @@ module _ {S : Type 0} (n : ℕ) (x : Sheet S) (fits : FitsCount n x) where
   missing g l before fails = record {
     below = l;
     before = λ k b. present k (before k b);
-    fails = none_is (entry_value x.values g) (no_value x.values g elsewhere);
+    fails = not_some (entry_value x.values g) (no_value x.values g elsewhere);
   } where
     elsewhere : All (λ e. e.place ≢ g) x.values
     elsewhere j d b same = go (cases_order j g) where

@@ -15,14 +15,11 @@ use Rattle.ofit_num.specs.Sheet.{Sheet, Entry, sheet_value, sheet_values}
 use Rattle.ofit_num.specs.Verdict.{AgreesInSize, RisesAlong, JoinsEqual}
 use Rattle.ofit_num.proofs.Lists.{All-slice_get}
 use Rattle.ofit_num.proofs.Sheets.{sheet_values-length, sheet_value-get}
-use Rattle.ofit_study.specs.Study.{Study, names_of, groups_of, places_of, rows_named, problem_stated, total_weight}
+use Rattle.ofit_study.specs.Study.{Study, names_of, places_of, problem_stated, total_weight}
 use Rattle.ofit_study.specs.declared.settings.Settings.{Settings}
-use Rattle.ofit_study.proofs.Stating.{rows_counted, rows_weighed, pairs_have_places}
+use Rattle.ofit_study.proofs.Stating.{rows_counted, rows_weighed}
 use Rattle.ofit_check.specs.Check.{HasValues}
 use Rattle.ofit_check.proofs.Comparing.{at_most_told, equal_told}
-
-pub group_count : (s : Study) → length (groups_of s) ≡ length (names_of s)
-group_count s = length-map (names_of s) (rows_named s.rows)
 
 equal_numbers : (a b : ℕ) → IsTrue (nat_eq a b) → a ≡ b
 equal_numbers a b t = grind (arith, nat_tests)
@@ -57,11 +54,6 @@ module _ (s : Study) (x : Sheet Settings) (h : HasValues s x) where
   pub value_is : (p : ℕ) (e : Entry) → p < length (names_of s) → slice_get x.values p ≡ Some e → e.value ≡ sheet_value x p
   value_is p e l at =
       same_Some e.value (sheet_value x p) (sym (slice_get-map (λ (t : Entry). t.value) x.values p ∙ ap (option_map (λ (t : Entry). t.value)) at) ∙ sheet_value-get (length (names_of s)) x h.fits h.complete p l)
-
-  pub pair_inside : (i : ℕ) (e : ℕ × ℕ) → slice_get (places_of s) i ≡ Some e → (e.0 < length (names_of s)) × (e.1 < length (names_of s))
-  pair_inside i e at =
-      let ends = All-slice_get (λ f. (f.0 < length (groups_of s)) × (f.1 < length (groups_of s))) (places_of s) i e (pairs_have_places s h.valid) at in
-      (omega (arith, group_count s, ends.0), omega (arith, group_count s, ends.1))
 
   pub flow_inside : (i : ℕ) (f : Flow) → slice_get x.flows i ≡ Some f → (f.low < length (names_of s)) × (f.high < length (names_of s))
   flow_inside i f at = All-slice_get (λ g. (g.low < length (names_of s)) × (g.high < length (names_of s))) x.flows i f h.fits.ends at

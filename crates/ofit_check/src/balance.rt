@@ -1,18 +1,13 @@
-ghost use Rattle.std.specs.Prelude.{◌≡◌, ◌↔◌, false, ◌<◌, ◌≤◌, ◌+◌, ◌*◌, ◌^◌, Bool, pos, ◌+ℤ◌, ◌≤ℤ◌, IsTrue, length, slice_index_or, unsigned_abs};
+ghost use Rattle.std.specs.Prelude.{◌≡◌, ◌↔◌, ◌<◌, ◌≤◌, ◌+◌, ◌*◌, ◌^◌, Bool, pos, ◌+ℤ◌, ◌≤ℤ◌, IsTrue, length, slice_index_or, unsigned_abs};
 ghost use Rattle.ofit_num.specs.Flow.{balance};
-ghost use Rattle.ofit_num.specs.Limits.{AreWithinLimits};
-ghost use Rattle.ofit_num.specs.Span.{is_at};
 ghost use Rattle.ofit_num.specs.Verdict.{IsBalanced};
-ghost use Rattle.ofit_loss.specs.Rows.{AreFittable};
-ghost use Rattle.ofit_study.specs.Settings.{IsBoundInLimits};
 ghost use Rattle.ofit_study.specs.Study.{names_of, places_of, problem_stated, meaning_of};
 ghost use Rattle.ofit_check.specs.Check.{IsFirstFailure, HasValues, HasOrderedFlows, amount_along, signed_amount};
 
-use crate::values::{bound_over, value_of};
-use ofit_loss::{Loss, Median, Squares};
-use ofit_num::{Frac, Row};
+use crate::values::value_of;
 use ofit_sheet::Sheet;
-use ofit_study::{LossKind, Study};
+use ofit_span::span_of;
+use ofit_study::Study;
 use std::cmp::Ordering;
 
 /// The amount of the flow along a pair, 0 where there is none. The flows stand in the order of the
@@ -74,37 +69,6 @@ fn balance_at(study: &Study, sheet: &Sheet, place: u32) -> i128
     balance
 }
 
-/// The least and the greatest balance of rows at a value.
-fn span_of(loss: LossKind, rows: &[Row], value: &Frac) -> (i128, i128)
-    requires { AreFittable rows.now }
-    ensures least { result.0 ≡ (meaning_of loss).least rows.now value.now.num value.now.den }
-    ensures greatest { result.1 ≡ (meaning_of loss).greatest rows.now value.now.num value.now.den }
-{
-    match loss {
-        LossKind::Squares => Squares::span(rows, value),
-        LossKind::Median => Median::span(rows, value),
-    }
-}
-
-/// Whether the value is the bound.
-fn is_at_bound(bound: Option<i64>, value: &Frac) -> bool
-    requires { IsBoundInLimits bound }
-    ensures { result ≡ is_at bound value.now.num value.now.den }
-{
-    match bound {
-        None => false,
-        Some(bound) => bound_over(bound, value) == value.num(),
-    }
-}
-
-/// Whether the lower number is at most the upper one, which isn't asked of a value at the bound.
-fn is_ordered(bound: Option<i64>, value: &Frac, lower: i128, upper: i128) -> bool
-    requires { IsBoundInLimits bound }
-    ensures { IsTrue result ↔ (is_at bound value.now.num value.now.den ≡ false → lower ≤ℤ upper) }
-{
-    is_at_bound(bound, value) || lower <= upper
-}
-
 /// Whether the balance of the group at a place is in its span, which is open where a bound bars the
 /// move.
 fn is_balanced(study: &Study, sheet: &Sheet, place: u32) -> bool
@@ -114,10 +78,7 @@ fn is_balanced(study: &Study, sheet: &Sheet, place: u32) -> bool
     ensures { IsTrue result ↔ IsBalanced (meaning_of study.now.settings.loss) (problem_stated study.now) sheet.now place }
 {
     let value = value_of(study, sheet, place);
-    let (least, greatest) = span_of(study.settings().loss, study.rows_of(place), &value);
-    let (lo, hi) = study.bounds_of(place);
-    let balance = balance_at(study, sheet, place);
-    is_ordered(hi, &value, least, balance) && is_ordered(lo, &value, balance, greatest)
+    span_of(study, place, &value).holds(balance_at(study, sheet, place))
 }
 
 /// The first place whose balance is outside its span.

@@ -67,7 +67,7 @@ pub(crate) fn first_disobedient(study: &Study, sheet: &Sheet) -> Option<u32>
 }
 
 /// A bound times the denominator of a value.
-pub(crate) fn bound_over(bound: i64, value: &Frac) -> i128
+fn bound_over(bound: i64, value: &Frac) -> i128
     requires bound { unsigned_abs bound ≤ 10 ^ 9 }
     ensures { result ≡ bound *ℤ pos value.now.den }
 {

@@ -1,7 +1,7 @@
 -- Lists of places that are closed under the pairs are parts of a problem.
-use Rattle.std.proofs.Common.{◌≡◌, ◌≢◌, ◌==◌, ℕ, zero, suc, ◌<◌, refl, sym, ap, subst, ◌∙◌, arith, inl, inr, ◌⊎◌, cond, Bool, true, false, List, [], ◌∷◌, length, get_or, map, slice_index, eq-eqb}
+use Rattle.std.proofs.Common.{◌≡◌, ◌≢◌, ◌==◌, ℕ, ◌<◌, refl, sym, ap, subst, ◌∙◌, arith, inl, inr, Bool, true, false, List, length, get_or, slice_index, eq-eqb}
 use Rattle.std.proofs.lemmas.Bool.Decides.{nat_tests}
-use Rattle.std.proofs.lemmas.List.{get_or_default, get_or-map, length-map}
+use Rattle.std.proofs.lemmas.List.{get_or_default}
 use Rattle.std.proofs.lemmas.List.Elements.{Contains-get_or, All-contains, All-filter, All-contains_itself, filter_passes}
 use Rattle.std.proofs.lemmas.List.Sums.{position_or_len_is}
 use Rattle.std.proofs.lemmas.List.Kept.{AllPairs-from_increasing}
@@ -14,38 +14,13 @@ use Rattle.ofit_order.proofs.DoubleCounting.{has, Contains-from_has, has-from_Co
 use Rattle.ofit_fit.specs.Part.{position_among, pairs_by_position, part_of}
 use Rattle.ofit_fit.proofs.Places.{HasPlace, IsDistinct}
 use Rattle.ofit_fit.proofs.Parts.{IsPart}
+use Rattle.ofit_num.proofs.Members.{in_map, from_map, Contains-filter}
 
 pub place_from_contains : (xs : List ℕ) (x : ℕ) → Contains xs x → HasPlace (slice_index xs) (length xs) x
 place_from_contains xs x h = (h.0, h.1, get_or_default xs h.0 0 x h.1 ∙ h.2)
 
 pub contains_from_place : (xs : List ℕ) (x : ℕ) → HasPlace (slice_index xs) (length xs) x → Contains xs x
 contains_from_place xs x h = (h.0, h.1, get_or_default xs h.0 x 0 h.1 ∙ h.2)
-
-pub contains_map : {X Y : Type 0} (f : X → Y) (xs : List X) (x : X) → Contains xs x → Contains (map f xs) (f x)
-contains_map f xs x h = (h.0, omega (arith, h.1, length-map xs f), get_or-map f xs h.0 x (f x) h.1 ∙ ap f h.2)
-
-pub contains_from_map : {Y : Type 0} (f : ℕ × ℕ → Y) (xs : List (ℕ × ℕ)) (y : Y) → Contains (map f xs) y → (x : ℕ × ℕ) × Contains xs x × (f x ≡ y)
-contains_from_map f xs y h =
-    let l : h.0 < length xs = omega (arith, h.1, length-map xs f) in
-    (get_or xs h.0 (0, 0), Contains-get_or xs h.0 (0, 0) l, sym (get_or-map f xs h.0 (0, 0) y l) ∙ h.2)
-
-head_or_tail : {X : Type 0} (y : X) (ys : List X) (x : X) (k : ℕ) → k < length (y ∷ ys) → get_or (y ∷ ys) k x ≡ x → (y ≡ x) ⊎ Contains ys x
-head_or_tail y ys x zero l e = inl e
-head_or_tail y ys x (suc k) l e = inr (k, omega arith, e)
-
-contains_cons : {X : Type 0} (y : X) (ys : List X) (x : X) → Contains ys x → Contains (y ∷ ys) x
-contains_cons y ys x h = (suc h.0, omega (arith, h.1), h.2)
-
-pub contains_filter : {X : Type 0} (p : X → Bool) (xs : List X) (x : X) → Contains xs x → p x ≡ true → Contains (filter p xs) x
-contains_filter p [] x h e = absurd (omega (arith, h.1))
-contains_filter {X} p (y ∷ ys) x h e = go (p y) refl (head_or_tail y ys x h.0 h.1 h.2) (contains_filter p ys x) where
-  go : (b : Bool) → p y ≡ b → (y ≡ x) ⊎ Contains ys x → (Contains ys x → p x ≡ true → Contains (filter p ys) x) → Contains (cond (p y) (y ∷ filter p ys) (filter p ys)) x
-  go true t (inl same) rest = subst (λ (b : Bool). Contains (cond b (y ∷ filter p ys) (filter p ys)) x) (sym t) (0, omega arith, same)
-  go true t (inr later) rest = subst (λ (b : Bool). Contains (cond b (y ∷ filter p ys) (filter p ys)) x) (sym t) (contains_cons y (filter p ys) x (rest later e))
-  go false t (inl same) rest =
-      let f : true ≡ false = sym e ∙ ap p (sym same) ∙ t in
-      cc
-  go false t (inr later) rest = subst (λ (b : Bool). Contains (cond b (y ∷ filter p ys) (filter p ys)) x) (sym t) (rest later e)
 
 pub contains_from_filter : {X : Type 0} (p : X → Bool) (xs : List X) (x : X) → Contains (filter p xs) x → Contains xs x × (p x ≡ true)
 contains_from_filter p xs x h = (
@@ -83,7 +58,7 @@ module _ (pairs : List (ℕ × ℕ)) (members : List ℕ) (distinct : IsDistinct
   -- a pair by positions is a pair of the places at them
   pub by_position_kept : (i j : ℕ) → Contains (pairs_by_position pairs members) (i, j) → (i < length members) × (j < length members) × Contains pairs (slice_index members i, slice_index members j)
   by_position_kept i j h =
-      let found : (e : ℕ × ℕ) × Contains (pairs_among pairs members) e × (_) = contains_from_map (λ (e : ℕ × ℕ). (position_among members e.0, position_among members e.1)) (pairs_among pairs members) (i, j) h in
+      let found : (e : ℕ × ℕ) × Contains (pairs_among pairs members) e × (_) = from_map (λ (e : ℕ × ℕ). (position_among members e.0, position_among members e.1)) (pairs_among pairs members) (i, j) h in
       let e : ℕ × ℕ = found.0 in
       let parts : Contains pairs e × (has members e.0 ≡ true) = contains_from_filter (λ (p : ℕ × ℕ). has members p.0) pairs e found.1 in
       let low : Contains members e.0 = Contains-from_has members e.0 parts.1 in
@@ -101,9 +76,9 @@ module _ (pairs : List (ℕ × ℕ)) (members : List ℕ) (distinct : IsDistinct
   pub by_position_all : (i j : ℕ) → i < length members → j < length members → Contains pairs (slice_index members i, slice_index members j) → Contains (pairs_by_position pairs members) (i, j)
   by_position_all i j l m h =
       let e : ℕ × ℕ = (slice_index members i, slice_index members j) in
-      let kept : Contains (pairs_among pairs members) e = contains_filter (λ (p : ℕ × ℕ). has members p.0) pairs e h (has-from_Contains members e.0 (contains_from_place members e.0 (i, l, refl))) in
+      let kept : Contains (pairs_among pairs members) e = Contains-filter (λ (p : ℕ × ℕ). has members p.0) pairs e h (has-from_Contains members e.0 (contains_from_place members e.0 (i, l, refl))) in
       let put : Contains (pairs_by_position pairs members) (position_among members e.0, position_among members e.1) =
-      contains_map (λ (e : ℕ × ℕ). (position_among members e.0, position_among members e.1)) (pairs_among pairs members) e kept in
+      in_map (λ (e : ℕ × ℕ). (position_among members e.0, position_among members e.1)) (pairs_among pairs members) e kept in
       subst (λ (a : ℕ). Contains (pairs_by_position pairs members) (a, j)) (position_at members distinct e.0 (i, l, refl))
       (subst (λ (b : ℕ). Contains (pairs_by_position pairs members) (position_among members e.0, b)) (position_at members distinct e.1 (j, m, refl)) put)
 

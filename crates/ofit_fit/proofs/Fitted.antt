@@ -30,7 +30,7 @@ pub fitted_none : (order : Relation) (m : Meaning) (s : Problem) (values : List 
 fitted_none order m s values e = record { count = e; parts = λ j members l are. absurd (omega (arith, l)) }
 
 -- the values that were put stand at their places
-put_there : (members : List ℕ) (picked before after : List Fraction) → length picked ≡ length members → ArePut members picked before after → values_at after members ≡ picked
+pub put_there : (members : List ℕ) (picked before after : List Fraction) → length picked ≡ length members → ArePut members picked before after → values_at after members ≡ picked
 put_there members picked before after n put = same_lists (values_at after members) picked (length-map members (value_at after) ∙ sym n)
     (λ i d l.
     let b : i < length members = omega (arith, l, length-map members (value_at after)) in
@@ -40,7 +40,7 @@ put_there members picked before after n put = same_lists (values_at after member
     ∙ get_or_default picked i (record { num = pos 0; den = 1 }) d (omega (arith, b, n)))
 
 -- and the others as before
-put_elsewhere : (members others : List ℕ) (picked before after : List Fraction) → ((g : ℕ) → Contains others g → Contains members g → ⊥) → ArePut members picked before after → values_at after others ≡ values_at before others
+pub put_elsewhere : (members others : List ℕ) (picked before after : List Fraction) → ((g : ℕ) → Contains others g → Contains members g → ⊥) → ArePut members picked before after → values_at after others ≡ values_at before others
 put_elsewhere members others picked before after apart put = same_lists (values_at after others) (values_at before others) (length-map others (value_at after) ∙ sym (length-map others (value_at before)))
     (λ i d l.
     let b : i < length others = omega (arith, l, length-map others (value_at after)) in

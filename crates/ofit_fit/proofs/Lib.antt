@@ -15,9 +15,9 @@ pub mod ChainParts
 pub mod Chained
 pub mod Ready
 pub mod Fitted
-pub mod Stated
 pub mod TreeParts
 pub mod OneOrder
 pub mod Generals
 pub mod Counts
 pub mod Bounded
+pub mod Averaged

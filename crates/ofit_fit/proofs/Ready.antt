@@ -1,8 +1,5 @@
 -- What a study that can be fitted tells of its problem.
-use Rattle.std.proofs.Common.{◌≡◌, ℕ, zero, suc, ◌+◌, ◌<◌, ◌≤◌, refl, ap, subst, arith, inl, inr, List, [], ◌∷◌, length, slice_index, ◌↔◌, length-append, cond, nat_lt, Bool, false}
-use Rattle.std.proofs.lemmas.Bool.Decides.{nat_tests}
-use Rattle.std.proofs.lemmas.List.Sums.{sum_by-cons}
-use Rattle.std.proofs.lemmas.List.{length-map, get_or_append_left, get_or-append-add}
+use Rattle.std.proofs.Common.{◌≡◌, ℕ, zero, suc, ◌+◌, ◌<◌, ◌≤◌, refl, ap, subst, arith, inl, inr, List, [], ◌∷◌, length, slice_index, ◌↔◌}
 use Rattle.std.proofs.lemmas.List.Elements.{Contains-get_or, All-nil, All-cons, All-contains, All-head, All-tail}
 use Rattle.std.specs.Prelude.{All, Result, IfOk, Vec}
 use Rattle.std.specs.Global.{Global}
@@ -12,11 +9,13 @@ use Rattle.ofit_num.specs.Fit.{LeastBestValues}
 use Rattle.std.specs.List.{Any, Contains}
 use Rattle.std.specs.List.Sorted.{IsStrictlyIncreasing}
 use Rattle.ofit_num.specs.declared.row.Row.{Row}
+use Rattle.ofit_num.specs.Clipped.{without_bounds}
 use Rattle.ofit_num.specs.Problem.{Problem, no_bounds}
 use Rattle.ofit_num.specs.Meaning.{Meaning}
 use Rattle.ofit_num.specs.Law.{HasScaling}
 use Rattle.ofit_num.specs.Limits.{all_rows}
 use Rattle.ofit_num.proofs.Pigeonhole.{distinct_few}
+use Rattle.ofit_num.proofs.RowLists.{all_front, all_back}
 use Rattle.ofit_order.specs.Relation.{Relation, ComesBefore}
 use Rattle.ofit_order.specs.Connection.{LeadsUp, Joins}
 use Rattle.ofit_order.specs.Component.{HasComponent, IsComponentOf, AreMembers}
@@ -24,19 +23,22 @@ use Rattle.ofit_order.proofs.Walks.{IsReached-refl}
 use Rattle.ofit_order.proofs.Increasing.{increasing_same}
 use Rattle.ofit_order.proofs.Forming.{member_inside}
 use Rattle.ofit_loss.specs.Laws.{HasLossLaws}
-use Rattle.ofit_loss.specs.Rows.{AreFittable, IsPlain, special_count}
+use Rattle.ofit_loss.specs.Rows.{IsPlain}
+use Rattle.ofit_loss.proofs.Plain.{some_plain}
 use Rattle.ofit_loss.proofs.ProblemLaws.{groups_fittable, problem_scaling}
-use Rattle.ofit_study.specs.Study.{Study, IsValid, names_of, rows_named, groups_of, places_of, place_among, problem_stated, most_rows}
-use Rattle.ofit_study.proofs.Stating.{rows_within, numbers_within, groups_filled}
+use Rattle.ofit_study.specs.Study.{Study, IsValid, names_of, groups_of, places_of, problem_stated}
+use Rattle.ofit_study.proofs.Places.{group_count, pair_count}
+use Rattle.ofit_study.proofs.Stating.{groups_filled}
+use Rattle.ofit_span.proofs.Fittable.{all_plain, all_fittable}
 use Rattle.ofit_fit.specs.Part.{part_of, IsOrderOf}
-use Rattle.ofit_fit.specs.Piece.{IsFittable, ArePlaces, free_problem}
+use Rattle.ofit_fit.specs.Piece.{IsFittable, ArePlaces}
 use Rattle.ofit_fit.proofs.Closed.{IsClosed, distinct_from_increasing}
 
 module _ (s : Study) (order : Relation) (fit : IsFittable s order) where
-  pub scaling : (m : Meaning) (strict : _) → HasLossLaws m strict → HasScaling m (free_problem s)
-  scaling m strict laws = problem_scaling m strict laws (free_problem s) (groups_fittable (groups_of s) (places_of s) no_bounds fit.fittable)
+  pub scaling : (m : Meaning) (strict : _) → HasLossLaws m strict → HasScaling m (without_bounds (problem_stated s))
+  scaling m strict laws = problem_scaling m strict laws (without_bounds (problem_stated s)) (groups_fittable (groups_of s) (places_of s) no_bounds fit.fittable)
 
-  pub places_closed : (members : List ℕ) → ArePlaces s order members → IsClosed (free_problem s) members
+  pub places_closed : (members : List ℕ) → ArePlaces s order members → IsClosed (without_bounds (problem_stated s)) members
   places_closed members are = record {
     distinct = distinct_from_increasing members are.rising;
     inside = λ p h. All-contains (λ g. g < length (groups_of s)) members p are.inside h;
@@ -44,34 +46,14 @@ module _ (s : Study) (order : Relation) (fit : IsFittable s order) where
     down = λ a b h c. (are.closed a b ((fit.of.pairs (a, b)).1 h)).1 c;
   }
 
--- no row of a valid study has one of the numbers that are kept for rows that are no observations
-none_special : (rows : List Row) → All (λ r. r.number ≤ most_rows) rows → special_count rows ≡ 0
-none_special [] h = refl
-none_special (r ∷ rows) h =
-    let low : nat_lt 4294967293 r.number ≡ false = lower r.number (All-head (λ (r : Row). r.number ≤ most_rows) r rows h) in
-    let none : ◌≡◌ {A = ℕ} (cond (nat_lt 4294967293 r.number) 1 0) 0 = ap (λ (b : Bool). cond b 1 0) low in
-    omega (arith, none, sum_by-cons (λ (r : Row). cond (nat_lt 4294967293 r.number) 1 0) r rows, none_special rows (All-tail (λ (r : Row). r.number ≤ most_rows) r rows h))
-  where
-    lower : (n : ℕ) → n ≤ 100000 → nat_lt 4294967293 n ≡ false
-    lower n l = grind (arith, nat_tests)
+-- each group of rows with numbers of observations has one
+plain_groups : (groups : List (List Row)) → All (λ rows. 0 < length rows) groups → All IsPlain (all_rows groups) → All (λ rows. Any IsPlain rows) groups
+plain_groups [] filled plain = All-nil (λ (rows : List Row). Any IsPlain rows)
+plain_groups (rows ∷ groups) filled plain = All-cons (λ (rows : List Row). Any IsPlain rows) rows groups
+    (some_plain rows (All-head (λ (rows : List Row). 0 < length rows) rows groups filled) (all_front IsPlain rows (all_rows groups) plain))
+    (plain_groups groups (All-tail (λ (rows : List Row). 0 < length rows) rows groups filled) (all_back IsPlain rows (all_rows groups) plain))
 
--- each row of a valid study is an observation
-some_plain : (rows : List Row) → 0 < length rows → All (λ r. r.number ≤ most_rows) rows → Any IsPlain rows
-some_plain [] some low = absurd (omega arith)
-some_plain (r ∷ rows) some low = (0, r, omega arith, refl, omega (arith, All-head (λ (r : Row). r.number ≤ most_rows) r rows low))
-
-plain_groups : (groups : List (List Row)) → All (λ rows. 0 < length rows) groups → All (λ r. r.number ≤ most_rows) (all_rows groups) → All (λ rows. Any IsPlain rows) groups
-plain_groups [] filled low = All-nil (λ (rows : List Row). Any IsPlain rows)
-plain_groups (rows ∷ groups) filled low = All-cons (λ (rows : List Row). Any IsPlain rows) rows groups
-    (some_plain rows (All-head (λ (rows : List Row). 0 < length rows) rows groups filled) (λ k d l. front k d l))
-    (plain_groups groups (All-tail (λ (rows : List Row). 0 < length rows) rows groups filled) (λ k d l. back k d l)) where
-      front : All (λ r. r.number ≤ most_rows) rows
-      front k d l = subst (λ (r : Row). r.number ≤ most_rows) (get_or_append_left rows (all_rows groups) d k l) (low k d (omega (arith, l, length-append rows (all_rows groups))))
-
-      back : All (λ r. r.number ≤ most_rows) (all_rows groups)
-      back k d l = subst (λ (r : Row). r.number ≤ most_rows) (get_or-append-add rows (all_rows groups) k d) (low (length rows + k) d (omega (arith, l, length-append rows (all_rows groups))))
-
-before_apart : (e f : ℕ × ℕ) → ComesBefore e f → e ≡ f → ⊥
+pub before_apart : (e f : ℕ × ℕ) → ComesBefore e f → e ≡ f → ⊥
 before_apart e f (inl l) same = omega (arith, l, ap (λ (p : ℕ × ℕ). p.0) same)
 before_apart e f (inr l) same = omega (arith, l.1, ap (λ (p : ℕ × ℕ). p.1) same)
 
@@ -80,19 +62,16 @@ pub study_fittable : (s : Study) (order : Relation) → IsValid s → IsOrderOf 
 study_fittable s order valid of = record {
   of = of;
   filled = groups_filled s;
-  plain = plain_groups (groups_of s) (groups_filled s) (numbers_within s valid);
-  fittable = record { limits = rows_within s valid; special = omega (arith, none_special (all_rows (groups_of s)) (numbers_within s valid)) };
-  few_groups = omega (arith, valid.groups, length-map (names_of s) (rows_named s.rows));
+  plain = plain_groups (groups_of s) (groups_filled s) (all_plain s valid);
+  fittable = all_fittable s valid;
+  few_groups = omega (arith, valid.groups, group_count s);
   few_pairs = omega (
     arith,
     valid.pairs,
     distinct_few order.pairs (places_of s) (λ i j d l b. before_apart _ _ (of.in_order i j d l b)) (λ e h. (of.pairs e).0 h),
-    length-map {B = ℕ × ℕ} s.pairs (λ e. (place_among (names_of s) e.0, place_among (names_of s) e.1)),
+    pair_count s,
   );
 }
-
-pub all_fittable : (s : Study) → IsValid s → AreFittable (all_rows (groups_of s))
-all_fittable s v = record { limits = rows_within s v; special = omega (arith, none_special (all_rows (groups_of s)) (numbers_within s v)) }
 
 -- each of the numbers that rise is at least its index
 at_least : (members : List ℕ) → IsStrictlyIncreasing members → (k : ℕ) → k < length members → k ≤ slice_index members k
@@ -113,7 +92,7 @@ pub members_places : (s : Study) (order : Relation) → IsValid s → IsOrderOf 
     → ((a b : ℕ) → LeadsUp order.pairs a b → Contains members a ↔ Contains members b) → ArePlaces s order members
 members_places s order valid of component members has are closed =
     let inside : All (λ g. g < length (groups_of s)) members = λ k d l. omega (arith, of.places, member_inside order component members are _ (Contains-get_or members k d l)) in
-    let named : length (groups_of s) ≡ length (names_of s) = length-map (names_of s) (rows_named s.rows) in
+    let named : length (groups_of s) ≡ length (names_of s) = group_count s in
     record {
       rising = are.rising;
       inside = inside;

@@ -1,4 +1,4 @@
--- How many components a problem has, and how many of them are fitted by cuts.
+-- How many components of a problem are fitted by cuts.
 use Rattle.std.specs.Prelude.{◌≡◌, ℕ, ◌+◌, ◌≤◌, List, length, sum_by, slice_get, Some, Result, OnOk}
 use Rattle.ofit_num.specs.Problem.{Problem}
 use Rattle.ofit_order.specs.Relation.{Relation}
@@ -7,9 +7,7 @@ use Rattle.ofit_order.specs.Form.{HasForm}
 use Rattle.ofit_order.specs.declared.form.Form.{Form}
 use Rattle.ofit_order.specs.declared.form.Form.TheVariants.{Chain, TreeUp, TreeDown, General}
 use Rattle.ofit_fit.specs.Part.{IsOrderOf}
-
-abbrev pub HasComponentCount : Problem → ℕ → Type 0
-HasComponentCount s n = IsComponentCount (record { places = s.count; pairs = s.pairs }) n
+pub use Rattle.ofit_study.specs.Counted.{HasComponentCount}
 
 -- a component is fitted by cuts where it is neither a chain nor a rooted tree
 abbrev pub cuts_of : Form → ℕ

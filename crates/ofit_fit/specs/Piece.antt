@@ -2,17 +2,12 @@
 use Rattle.std.specs.Prelude.{ℕ, ◌<◌, ◌≤◌, ◌^◌, ◌↔◌, List, length}
 use Rattle.std.specs.List.{Contains, All, Any}
 use Rattle.std.specs.List.Sorted.{IsStrictlyIncreasing}
-use Rattle.ofit_num.specs.Problem.{Problem, problem_of, no_bounds}
 use Rattle.ofit_num.specs.Limits.{all_rows}
 use Rattle.ofit_order.specs.Relation.{Relation}
 use Rattle.ofit_order.specs.Connection.{LeadsUp}
 use Rattle.ofit_loss.specs.Rows.{AreFittable, IsPlain}
-use Rattle.ofit_study.specs.Study.{Study, groups_of, places_of, problem_stated}
+use Rattle.ofit_study.specs.Study.{Study, groups_of, problem_stated}
 use Rattle.ofit_fit.specs.Part.{IsOrderOf}
-
--- the problem that a study states, without its bounds
-abbrev pub free_problem : Study → Problem
-free_problem s = problem_of (groups_of s) (places_of s) no_bounds
 
 -- a study whose groups have observations that a loss takes together, with its order
 pub record IsFittable (s : Study) (order : Relation) : Type 0 where

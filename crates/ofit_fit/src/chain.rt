@@ -2,6 +2,7 @@ ghost use Rattle.std.specs.Prelude.{◌≡◌, ◌<◌, ◌≤◌, ◌^◌, ◌�
 ghost use Rattle.std.specs.List.{All, Contains};
 ghost use Rattle.std.specs.List.Sorted.{IsStrictlyIncreasing};
 ghost use Rattle.ofit_num.specs.Limits.{all_rows};
+ghost use Rattle.ofit_num.specs.Clipped.{without_bounds};
 ghost use Rattle.ofit_num.specs.Fit.{LeastBestValues};
 ghost use Rattle.ofit_order.specs.Relation.{AreInOrder};
 ghost use Rattle.ofit_order.specs.Connection.{LeadsUp};
@@ -10,7 +11,7 @@ ghost use Rattle.ofit_chain.specs.Chain.{chain_problem};
 ghost use Rattle.ofit_order.specs.Shape.{IsChainOf};
 ghost use Rattle.ofit_study.specs.Study.{groups_of, problem_stated};
 ghost use Rattle.ofit_fit.specs.Part.{part_of, position_among};
-ghost use Rattle.ofit_fit.specs.Piece.{IsFittable, ArePlaces, free_problem};
+ghost use Rattle.ofit_fit.specs.Piece.{IsFittable, ArePlaces};
 ghost use Rattle.ofit_fit.specs.Links.{IsLinkWithin, IsPathFrom, link_at};
 
 use crate::links::{links_down, links_up};
@@ -106,7 +107,7 @@ pub(crate) fn fit_as_chain<L: Loss>(
     requires study { IsFittable study.now order.now }
     requires places { ArePlaces study.now order.now members.now }
     requires chain { (list : List ℕ) × IsChainOf order.now.pairs members.now list }
-    ensures { IfOk result (λ values. LeastBestValues L.meaning (part_of (free_problem study.now) members.now) values.items) }
+    ensures { IfOk result (λ values. LeastBestValues L.meaning (part_of (without_bounds (problem_stated study.now)) members.now) values.items) }
 {
     let path = path_of(alloc, order.pairs(), members)?;
     let values = fit_along::<L>(alloc, study, members, path.as_slice())?;

@@ -1,6 +1,8 @@
-ghost use Rattle.std.specs.Prelude.{◌≡◌, ◌≤◌, ◌^◌, ◌*ℤ◌, pos, unsigned_abs, length, map, IfOk};
-ghost use Rattle.ofit_num.specs.Clipped.{whole, clip_low, clip_high, clip};
+ghost use Rattle.std.specs.Prelude.{◌≡◌, ◌≤◌, ◌^◌, ◌*ℤ◌, pos, unsigned_abs, length, IfOk};
+ghost use Rattle.ofit_num.specs.Clipped.{whole, clip_low, clip_high, AreClipped};
 ghost use Rattle.ofit_study.specs.Settings.{IsBoundInLimits};
+ghost use Rattle.ofit_study.specs.Study.{problem_stated};
+ghost use Rattle.ofit_fit.specs.Part.{part_of};
 
 use ofit_num::Frac;
 use ofit_study::Study;
@@ -52,7 +54,7 @@ pub(crate) fn values_within(
     values: &[Frac],
 ) -> Result<Vec<Frac>, AllocError>
     requires { length values.now ≡ length members.now }
-    ensures { IfOk result (λ within. within.items ≡ map (clip study.now.settings.lo study.now.settings.hi) values.now) }
+    ensures { IfOk result (λ within. AreClipped (part_of (problem_stated study.now) members.now) values.now within.items) }
 {
     let mut within = Vec::new(alloc);
     for (position, member) in members.iter().enumerate() {

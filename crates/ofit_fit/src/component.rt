@@ -1,9 +1,10 @@
 ghost use Rattle.std.specs.Prelude.{◌≡◌, ◌+◌, ◌-◌, ◌<◌, ◌^◌, ℕ, IfOk, List};
+ghost use Rattle.ofit_num.specs.Clipped.{without_bounds};
 ghost use Rattle.ofit_num.specs.Fit.{LeastBestValues};
 ghost use Rattle.ofit_order.specs.Component.{HasComponent, AreMembers};
 ghost use Rattle.ofit_study.specs.Study.{problem_stated, meaning_of};
 ghost use Rattle.ofit_fit.specs.Part.{part_of, IsOrderOf};
-ghost use Rattle.ofit_fit.specs.Piece.{IsFittable, free_problem};
+ghost use Rattle.ofit_fit.specs.Piece.{IsFittable};
 ghost use Rattle.ofit_fit.specs.Counted.{CountsCut};
 
 use crate::chain::fit_as_chain;
@@ -29,11 +30,11 @@ fn fit_form<L: Loss>(
     requires component { HasComponent order.now component }
     requires room { tally.old.cuts < 2 ^ 64 - 1 }
     ensures least_best { IfOk result (λ values. (members : List ℕ) → AreMembers order.now component members
-        → LeastBestValues L.meaning (part_of (free_problem study.now) members) values.items) }
+        → LeastBestValues L.meaning (part_of (without_bounds (problem_stated study.now)) members) values.items) }
     ensures cuts { CountsCut order.now component result tally.old.cuts tally.new.cuts }
     ensures fits { tally.new.fits ≡ tally.old.fits }
 {
-    let _groups = study.group_count();
+    study.keeps_limits();
     let members = order.members(component);
     match order.form(component) {
         Form::Chain => fit_as_chain::<L>(alloc, study, order, members),
@@ -55,7 +56,7 @@ fn fit_free(
     requires component { HasComponent order.now component }
     requires room { tally.old.cuts < 2 ^ 64 - 1 }
     ensures least_best { IfOk result (λ values. (members : List ℕ) → AreMembers order.now component members
-        → LeastBestValues (meaning_of study.now.settings.loss) (part_of (free_problem study.now) members) values.items) }
+        → LeastBestValues (meaning_of study.now.settings.loss) (part_of (without_bounds (problem_stated study.now)) members) values.items) }
     ensures cuts { CountsCut order.now component result tally.old.cuts tally.new.cuts }
     ensures fits { tally.new.fits ≡ tally.old.fits }
 {
@@ -89,7 +90,7 @@ pub fn fit_component(
         → LeastBestValues (meaning_of study.now.settings.loss) (part_of (problem_stated study.now) members) values.items) }
 {
     tally.note_fit();
-    let _groups = study.group_count();
+    study.keeps_limits();
     let values = fit_free(alloc, study, order, component, tally)?;
     values_within(alloc, study, order.members(component), &values)
 }

@@ -1,11 +1,13 @@
 ghost use Rattle.std.specs.Prelude.{◌≡◌, ◌+◌, ◌-◌, ◌<◌, ◌≤◌, ◌^◌, ◌↔◌, ℕ, IfOk, OnOk, length};
 ghost use Rattle.std.specs.List.{Contains};
 ghost use Rattle.std.specs.List.Sorted.{IsStrictlyIncreasing};
+ghost use Rattle.ofit_num.specs.Clipped.{without_bounds};
 ghost use Rattle.ofit_num.specs.Fit.{LeastBestValues};
 ghost use Rattle.ofit_order.specs.Relation.{AreInOrder};
 ghost use Rattle.ofit_order.specs.Connection.{LeadsUp};
+ghost use Rattle.ofit_study.specs.Study.{problem_stated};
 ghost use Rattle.ofit_fit.specs.Part.{part_of};
-ghost use Rattle.ofit_fit.specs.Piece.{IsFittable, ArePlaces, free_problem};
+ghost use Rattle.ofit_fit.specs.Piece.{IsFittable, ArePlaces};
 ghost use Rattle.ofit_fit.specs.Links.{AreAdded, ArePairsBetween};
 
 use crate::links::{pairs_above, position_of};
@@ -72,7 +74,7 @@ pub(crate) fn fit_by_cuts<L: Loss>(
     requires study { IsFittable study.now order.now }
     requires places { ArePlaces study.now order.now members.now }
     requires room { tally.old.cuts < 2 ^ 64 - 1 }
-    ensures least_best { IfOk result (λ values. LeastBestValues L.meaning (part_of (free_problem study.now) members.now) values.items) }
+    ensures least_best { IfOk result (λ values. LeastBestValues L.meaning (part_of (without_bounds (problem_stated study.now)) members.now) values.items) }
     ensures counted { OnOk result (tally.new.cuts ≡ tally.old.cuts + 1) }
     ensures grown { tally.old.cuts ≤ tally.new.cuts }
     ensures most { tally.new.cuts ≤ tally.old.cuts + 1 }

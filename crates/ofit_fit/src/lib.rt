@@ -15,3 +15,4 @@ mod values;
 pub use component::fit_component;
 pub use laws::fits_compose;
 pub use study::fit_study;
+pub use values::put_values;

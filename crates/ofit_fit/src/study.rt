@@ -1,5 +1,9 @@
-ghost use Rattle.std.specs.Prelude.{◌≡◌, ◌+◌, ◌≤◌, ◌^◌, ℕ, IfOk, OnOk, OnErr, length, vec_len};
+ghost use Rattle.std.specs.Prelude.{◌≡◌, ◌+◌, ◌≤◌, ◌^◌, ℕ, IfOk, OnOk, OnErr, length, vec_len, slice_get, Some, None};
+ghost use Rattle.ofit_num.specs.Clipped.{HasConstantBounds};
 ghost use Rattle.ofit_num.specs.Fit.{LeastBestValues};
+ghost use Rattle.ofit_num.specs.Fraction.{Fraction};
+ghost use Rattle.ofit_num.specs.MaxMin.{MaxMin};
+ghost use Rattle.ofit_study.specs.declared.loss.LossKind.TheVariants.{Squares};
 ghost use Rattle.ofit_study.specs.Study.{groups_of, problem_stated, meaning_of};
 ghost use Rattle.ofit_fit.specs.Part.{IsOrderOf};
 ghost use Rattle.ofit_fit.specs.Counted.{HasComponentCount, HasCutCount};
@@ -42,7 +46,7 @@ fn fit_components(
     ensures grown_cuts { tally.old.cuts ≤ tally.new.cuts }
     ensures fewer_cuts { tally.new.cuts + tally.old.fits ≤ tally.old.cuts + tally.new.fits }
 {
-    let _groups = study.group_count();
+    study.keeps_limits();
     for component in 0..order.component_count() {
         let values = fit_component(alloc, study, order, component, tally)?;
         put_values(&mut fitted, order.members(component), values.as_slice());
@@ -51,11 +55,16 @@ fn fit_components(
 }
 
 /// The least-cost values of the study within its bounds, one for each group in the groups' order, and of
-/// these the pointwise least. The tally counts each component that is fitted, and each that is fitted by cuts.
+/// these the pointwise least. Under squares without bounds the value of a group is the greatest, over upper
+/// sets that hold it, of the least, over lower sets that hold it, of the weighted mean of the groups in both
+/// (Robertson, Wright and Dykstra, Order Restricted Statistical Inference, 1988, chapter 1). The tally
+/// counts each component that is fitted, and each that is fitted by cuts.
 pub fn fit_study(alloc: Global, study: &Study, tally: &mut Tally) -> Result<Vec<Frac>, AllocError>
     requires room { tally.old.fits ≤ 2 ^ 63 }
     requires room_for_cuts { tally.old.cuts ≤ 2 ^ 63 }
     ensures least_best { IfOk result (λ values. LeastBestValues (meaning_of study.now.settings.loss) (problem_stated study.now) values.items) }
+    ensures max_min { study.now.settings.loss ≡ Squares → HasConstantBounds (problem_stated study.now) None None
+        → IfOk result (λ values. (g : ℕ) (v : Fraction) → slice_get values.items g ≡ Some v → MaxMin (problem_stated study.now) g v) }
     ensures counted { OnOk result ((n : ℕ) × HasComponentCount (problem_stated study.now) n × (tally.new.fits ≡ tally.old.fits + n)) }
     ensures limited { OnErr result ((n : ℕ) → HasComponentCount (problem_stated study.now) n → tally.new.fits ≤ tally.old.fits + n) }
     ensures grown { tally.old.fits ≤ tally.new.fits }

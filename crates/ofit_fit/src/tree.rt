@@ -1,12 +1,14 @@
 ghost use Rattle.std.specs.Prelude.{◌<◌, ◌^◌, ◌↔◌, ℕ, List, IfOk, length};
 ghost use Rattle.std.specs.List.{Contains};
 ghost use Rattle.std.specs.List.Sorted.{IsStrictlyIncreasing};
+ghost use Rattle.ofit_num.specs.Clipped.{without_bounds};
 ghost use Rattle.ofit_num.specs.Fit.{LeastBestValues};
 ghost use Rattle.ofit_order.specs.Relation.{AreInOrder};
 ghost use Rattle.ofit_order.specs.Connection.{LeadsUp};
 ghost use Rattle.ofit_order.specs.Shape.{RunsTo};
+ghost use Rattle.ofit_study.specs.Study.{problem_stated};
 ghost use Rattle.ofit_fit.specs.Part.{part_of};
-ghost use Rattle.ofit_fit.specs.Piece.{IsFittable, ArePlaces, free_problem};
+ghost use Rattle.ofit_fit.specs.Piece.{IsFittable, ArePlaces};
 ghost use Rattle.ofit_fit.specs.Links.{AreLinks};
 ghost use Rattle.ofit_fit.specs.Direct.{Leads};
 
@@ -49,7 +51,7 @@ pub(crate) fn fit_as_tree<L: Loss>(
     requires study { IsFittable study.now order.now }
     requires places { ArePlaces study.now order.now members.now }
     requires tree { (root : ℕ) × RunsTo (Leads direction order.now.pairs) members.now root }
-    ensures { IfOk result (λ values. LeastBestValues L.meaning (part_of (free_problem study.now) members.now) values.items) }
+    ensures { IfOk result (λ values. LeastBestValues L.meaning (part_of (without_bounds (problem_stated study.now)) members.now) values.items) }
 {
     let parents = parents_of(alloc, order.pairs(), members, direction)?;
     let groups = groups_at(alloc, study, members)?;

@@ -6,7 +6,7 @@ use ofit_num::Frac;
 use std::alloc::{AllocError, Global};
 
 /// Puts each value at its place.
-pub(crate) fn put_values(into: &mut Vec<Frac>, places: &[u32], values: &[Frac])
+pub fn put_values(into: &mut Vec<Frac>, places: &[u32], values: &[Frac])
     requires as_long { length values.now ≡ length places.now }
     requires inside { All (λ g. g < vec_len into.old) places.now }
     requires distinct { (i j : ℕ) → i < length places.now → j < length places.now → slice_index places.now i ≡ slice_index places.now j → i ≡ j }

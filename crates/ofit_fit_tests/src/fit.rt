@@ -17,6 +17,9 @@ pub(crate) fn study_of(
     rows: &[Weighed],
     pairs: &[(u32, u32)],
 ) -> Result<Study, Fail> {
+    if !loss.is_listed() {
+        return Err(Fail::from("a loss beyond the table"));
+    }
     let settings = Settings {
         loss,
         places: 0,

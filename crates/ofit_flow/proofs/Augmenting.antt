@@ -1,10 +1,10 @@
 -- A path from the source to the sink, one step at a time.
-use Rattle.std.proofs.Common.{◌≡◌, ◌≢◌, ℕ, zero, suc, ◌<◌, ◌≤◌, ◌+◌, ◌⊎◌, refl, ap, sym, ◌∙◌, subst, arith, List, [], ◌∷◌, length, Bool, true, false, cond, eqb, inl, inr, get_or, set, Option, Some, map, not, ◌&&◌, replicate, ◌*◌}
+use Rattle.std.proofs.Common.{◌≡◌, ◌≢◌, ℕ, zero, suc, ◌<◌, ◌≤◌, ◌+◌, ◌⊎◌, refl, ap, sym, ◌∙◌, subst, arith, List, [], ◌∷◌, length, Bool, true, false, cond, eqb, inl, inr, get_or, set, Option, Some, not, ◌&&◌, replicate, ◌*◌}
 use Rattle.std.proofs.lemmas.Int.{ints}
 use Rattle.std.proofs.lemmas.Bool.{cases_eq, eq-eqb, ne_eqb}
 use borrow.Author.Differences.{up}
 use Rattle.std.specs.List.{All}
-use Rattle.std.proofs.lemmas.List.{get_or-set_same, get_or-set_other, get_or-replicate, get_or_default, get_or_past, length-replicate, length-set, length-map}
+use Rattle.std.proofs.lemmas.List.{get_or-set_same, get_or-set_other, get_or-replicate, get_or_default, length-replicate, length-set}
 use Rattle.std.proofs.lemmas.List.Elements.{All-head, All-tail}
 use Rattle.std.specs.Prelude.{ℤ, pos, negsuc, ◌+ℤ◌, ◌-ℤ◌, ◌≤ℤ◌, ◌<ℤ◌}
 use Rattle.ofit_flow.specs.declared.edge.Edge.{Edge}
@@ -17,7 +17,7 @@ use Rattle.ofit_flow.proofs.Optimal.{value-le-capacity}
 use Rattle.ofit_flow.specs.Levels.{level_at}
 use Rattle.ofit_flow.specs.Search.{height}
 use Rattle.ofit_flow.specs.Walk.{step_at, node_on, no_step, IsPath, IsWay, IsAugmented, FallsOnly, LeadsDown}
-use Rattle.ofit_flow.proofs.Searching.{same_some, height_is}
+use Rattle.ofit_flow.proofs.Searching.{same_some, height_is, node_past}
 use Rattle.ofit_flow.proofs.Crossing.{node_part, net_out, net_out_is}
 
 -- what a change of one amount does to a sum
@@ -259,9 +259,6 @@ through es before source sink by xs apart flow within moved = (
       let there : at_node sink by source ≡ pos 0 = ap (λ (b : Bool). cond b by (pos 0)) (ne_eqb sink source (λ e. apart (sym e))) in
       omega (arith, ints, here, there, moved source, net_out_is source es xs, net_out_is source es before),
 )
-
-node_past : (path : List Step) (node : ℕ) → node_on path node (length path) ≡ node
-node_past path node = get_or_past (map (λ (s : Step). s.from) path) (length path) node (omega (arith, length-map path (λ (s : Step). s.from)))
 
 -- once all steps have, the flow has risen by `by`
 pub sent_all : (es : List Edge) (before : List ℤ) (path : List Step) (by : ℤ) (xs : List ℤ) (levels : List (Option ℕ)) (source sink : ℕ) → IsSent es before path by (length path) xs → source ≢ sink → IsFlow es source sink before → IsPath es before levels path source sink → IsAugmented es source sink levels before xs by

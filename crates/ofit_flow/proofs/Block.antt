@@ -1,7 +1,7 @@
 -- A blocking flow, one path at a time.
-use Rattle.std.proofs.Common.{◌≡◌, ◌≢◌, ℕ, ◌<◌, ◌≤◌, refl, ap, sym, ◌∙◌, subst, arith, Bool, true, false, List, length, get_or, replicate, Option, Some}
+use Rattle.std.proofs.Common.{◌≡◌, ◌≢◌, ℕ, ◌<◌, ◌≤◌, refl, ap, sym, ◌∙◌, subst, arith, Bool, true, false, List, length, get_or, replicate, Option, Some, to_z, of_z}
 use Rattle.std.specs.List.{All}
-use Rattle.std.proofs.lemmas.Int.{ints}
+use Rattle.std.proofs.lemmas.Int.{ints, to_z-of_z}
 use Rattle.std.proofs.lemmas.List.{get_or-replicate, get_or_default, length-replicate}
 use Rattle.std.specs.Prelude.{ℤ, pos, ◌+ℤ◌, ◌≤ℤ◌, ◌<ℤ◌}
 use Rattle.ofit_flow.specs.declared.edge.Edge.{Edge}
@@ -13,6 +13,7 @@ use Rattle.ofit_flow.specs.Search.{CanSearch}
 use Rattle.ofit_flow.specs.Walk.{IsPath, IsPhase, IsWay, IsAugmented, CanWalk, Walks, no_step}
 use Rattle.ofit_flow.proofs.Augmenting.{value-small}
 use Rattle.ofit_flow.proofs.Phase.{phase_first, phase_sent, later}
+use mir.Syntax.{w128}
 
 -- a blocking flow under way, since the levels were `first`
 pub record IsBlocking (es : List Edge) (nodes : ℕ) (row : ℕ → List ℕ) (source sink : ℕ) (first : List (Option ℕ)) (xs : List ℤ) (levels : List (Option ℕ)) (spent : List ℕ) (value : ℤ) : Type 0 where
@@ -94,6 +95,33 @@ blocking_more {es} {nodes} {row} {source} {sink} {first} {xs} {xs'} {levels} {le
 pub more_fits : {es : List Edge} {nodes : ℕ} {row : ℕ → List ℕ} {source sink : ℕ} {first : List (Option ℕ)} {xs xs' : List ℤ} {levels levels' : List (Option ℕ)} {spent : List ℕ} {value by : ℤ} → IsBlocking es nodes row source sink first xs levels spent value → IsAugmented es source sink levels' xs xs' by → source ≢ sink → length es ≤ 50000 → (value +ℤ by) ≤ℤ pos 100000000000000000000000000000000000000
 more_fits {es} {nodes} {source = source} {sink} {xs' = xs'} h sent apart few =
     omega (arith, ints, h.valued, sent.value, value-small es source sink xs' nodes apart sent.flow h.can.net.edges_in few)
+
+-- the value is a number of 128 bits, and so is its sum with what a path adds
+pub record AreKept (value by : ℤ) : Type 0 where
+  pub value_is : to_z w128 (of_z w128 value) ≡ value
+  pub sum_is : to_z w128 (of_z w128 (to_z w128 (of_z w128 value) +ℤ by)) ≡ value +ℤ by
+
+pub are_kept : (value by : ℤ) → pos 0 ≤ℤ value → pos 0 <ℤ by → (value +ℤ by) ≤ℤ pos 100000000000000000000000000000000000000 → AreKept value by
+are_kept value by gained positive small =
+    let value_is : to_z w128 (of_z w128 value) ≡ value = to_z-of_z w128 value (omega (arith, ints)) in
+    record {
+      value_is = value_is;
+      sum_is = subst (λ (z : ℤ). to_z w128 (of_z w128 (z +ℤ by)) ≡ value +ℤ by) (sym value_is) (to_z-of_z w128 (value +ℤ by) (omega (arith, ints)));
+    }
+
+-- a path that has been found, named as the loop names it, and what is sent along it
+pub record IsSent (es : List Edge) (source sink : ℕ) (levels : List (Option ℕ)) (xs xs' : List ℤ) (value by : ℤ) : Type 0 where
+  pub sent : IsAugmented es source sink levels xs xs' by
+  pub small : (value +ℤ by) ≤ℤ pos 100000000000000000000000000000000000000
+  pub kept : AreKept value by
+
+pub is_sent : {es : List Edge} {nodes : ℕ} {row : ℕ → List ℕ} {source sink : ℕ} {first : List (Option ℕ)} {xs xs' : List ℤ} {levels levels' : List (Option ℕ)} {spent spent' : List ℕ} {path named : List Step} {value by : ℤ} → IsBlocking es nodes row source sink first xs levels spent value
+    → Walks es xs nodes row levels levels' spent spent' path source sink true → named ≡ path → (IsPath es xs levels' named source sink → IsAugmented es source sink levels' xs xs' by) → source ≢ sink → length es ≤ 50000 → pos 0 <ℤ by → IsSent es source sink levels' xs xs' value by
+is_sent {es} {source = source} {sink} {xs = xs} {levels' = levels'} {value = value} {by} h w same augment apart few positive =
+    let path = subst (λ (p : List Step). IsPath es xs levels' p source sink) (sym same) (w.leads refl) in
+    let sent = augment path in
+    let small = more_fits h sent apart few in
+    record { sent = sent; small = small; kept = are_kept value by h.gained positive small }
 
 -- no path is left: the next levels reach the sink later
 pub blocking_done : {es : List Edge} {nodes : ℕ} {row : ℕ → List ℕ} {source sink : ℕ} {first : List (Option ℕ)} {xs : List ℤ} {levels levels' : List (Option ℕ)} {spent spent' : List ℕ} {path : List Step} {value : ℤ} → source ≢ sink → level_at first source ≡ Some 0 → IsBlocking es nodes row source sink first xs levels spent value → Walks es xs nodes row levels levels' spent spent' path source sink false → (last : ℕ) → level_at first sink ≡ Some last → IsFurther es xs source sink last

@@ -1,11 +1,11 @@
 -- A breadth-first search, step by step.
-use Rattle.std.proofs.Common.{◌≡◌, ◌≢◌, ℕ, zero, suc, ◌<◌, ◌≤◌, ◌+◌, ◌⊎◌, refl, ap, sym, ◌∙◌, subst, arith, List, [], ◌∷◌, ◌++◌, length, Bool, true, false, cond, eqb, inl, inr, get_or, set, Option, Some, None, is_some, is_none, below_more, replicate, ◌*◌}
+use Rattle.std.proofs.Common.{◌≡◌, ◌≢◌, ℕ, zero, suc, ◌<◌, ◌≤◌, ◌+◌, ◌⊎◌, refl, ap, sym, ◌∙◌, subst, arith, List, [], ◌∷◌, ◌++◌, length, Bool, true, false, cond, eqb, inl, inr, get_or, set, Option, Some, None, is_some, is_none, below_more, replicate, ◌*◌, map}
 use Rattle.std.specs.List.{count_by, All, Contains}
 use Rattle.std.proofs.lemmas.Int.{ints}
 use Rattle.std.proofs.lemmas.List.Sums.{sum_by-set}
 use Rattle.std.proofs.lemmas.List.Folds.{sum_by-replicate}
 use Rattle.std.proofs.lemmas.Bool.{cases_eq, cases_lt, true≢false, false≢true, eq-eqb, ne_eqb}
-use Rattle.std.proofs.lemmas.List.{get_or-set_same, get_or-set_other, length-set, get_or_append_left, get_or_push, get_or_read, length_push, get_or-replicate, get_or_past, length-replicate}
+use Rattle.std.proofs.lemmas.List.{get_or-set_same, get_or-set_other, length-set, get_or_append_left, get_or_push, get_or_read, length_push, get_or-replicate, get_or_past, length-replicate, length-map}
 use Rattle.std.proofs.lemmas.List.Elements.{All-contains, Contains-get_or}
 use Rattle.std.specs.Prelude.{ℤ, pos, ◌-ℤ◌, ◌<ℤ◌, unwrap_or}
 use Rattle.ofit_flow.specs.declared.edge.Edge.{Edge}
@@ -14,6 +14,8 @@ use Rattle.ofit_flow.specs.Residual.{other_end, residual, Touches, IsClosedAt, I
 use Rattle.ofit_flow.specs.Incidence.{IsIncidence}
 use Rattle.ofit_flow.specs.Levels.{level_at, has_level, IsLevelled, IsArc, IsReached, IsLevelling, LeadsClose, IsSearched}
 use Rattle.ofit_flow.specs.Search.{IsSearch, IsQueuedFrom, Extends, IsLedOn, IsVisited, height, AreAtMost}
+use Rattle.ofit_flow.specs.Walk.{node_on}
+use Rattle.ofit_flow.specs.declared.step.Step.{Step}
 
 some_of : {A : Type 0} (o : Option A) → is_some o ≡ true → (x : A) × (o ≡ Some x)
 some_of None h = absurd (false≢true h)
@@ -444,3 +446,7 @@ row_below es nodes v row v_in inc k d b = inc.below v (get_or (row v) k d) v_in 
 
 pub row_touches : (es : List Edge) (nodes v : ℕ) (row : ℕ → List ℕ) → v < nodes → IsIncidence es nodes row → All (λ k. Touches (edge_at es k) v) (row v)
 row_touches es nodes v row v_in inc k d b = inc.touching v (get_or (row v) k d) v_in (Contains-get_or (row v) k d b)
+
+-- past the last step stands the node where the path ends
+pub node_past : (path : List Step) (node : ℕ) → node_on path node (length path) ≡ node
+node_past path node = get_or_past (map (λ (s : Step). s.from) path) (length path) node (omega (arith, length-map path (λ (s : Step). s.from)))

@@ -2,13 +2,13 @@
 use Rattle.std.proofs.Common.{◌≡◌, ◌≢◌, ℕ, ◌<◌, ◌≤◌, ◌+◌, refl, ap, sym, ◌∙◌, subst, arith, true, false, List, [], ◌∷◌, ◌++◌, length, map, inl, inr, get_or, set, Option, Some, None, is_some}
 use Rattle.std.specs.List.{count_by}
 use Rattle.std.proofs.lemmas.Bool.{cases_eq, true≢false, false≢true}
-use Rattle.std.proofs.lemmas.List.{get_or-set_same, get_or-set_other, length-set, length-map, map-append, get_or_append_left, get_or_push, get_or_past, get_or_default, length_push}
+use Rattle.std.proofs.lemmas.List.{get_or-set_same, get_or-set_other, length-set, length-map, map-append, get_or_append_left, get_or_push, get_or_default, length_push}
 use Rattle.std.specs.Prelude.{ℤ}
 use Rattle.ofit_flow.specs.declared.edge.Edge.{Edge}
 use Rattle.ofit_flow.specs.declared.step.Step.{Step}
 use Rattle.ofit_flow.specs.Levels.{level_at, AreLow}
 use Rattle.ofit_flow.specs.Walk.{IsSpent, IsStepUp, IsPath, IsPhase, CanWalk, Walks, no_step, step_at, node_on}
-use Rattle.ofit_flow.proofs.Searching.{same_some, none_some, levelled_from, levelled_within}
+use Rattle.ofit_flow.proofs.Searching.{same_some, none_some, levelled_from, levelled_within, node_past}
 use Rattle.ofit_flow.proofs.Phase.{phase_passed, phase_died, fewer_at}
 
 abbrev froms : List Step → List ℕ
@@ -19,9 +19,6 @@ froms_push path s = map-append (λ (t : Step). t.from) path (s ∷ [])
 
 froms_counted : (path : List Step) → length (froms path) ≡ length path
 froms_counted path = length-map path (λ (t : Step). t.from)
-
-node_past : (path : List Step) (node : ℕ) → node_on path node (length path) ≡ node
-node_past path node = get_or_past (froms path) (length path) node (omega (arith, froms_counted path))
 
 -- the nodes on a path are those on the path with a step more from its end
 pub push_node : (path : List Step) (s : Step) (to i : ℕ) → i ≤ length path → node_on (path ++ s ∷ []) to i ≡ node_on path s.from i

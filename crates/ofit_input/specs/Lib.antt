@@ -1,3 +1,5 @@
 pub mod Files
 pub mod Given
+pub mod Ready
 pub mod Stops
+pub mod Fitting

@@ -2,12 +2,11 @@ ghost use Rattle.std.specs.Prelude.{◌≡◌, IfOk, IfErr, OnOk};
 ghost use Rattle.ofit_input.specs.Files.{IsFile, FileRefusal};
 ghost use Rattle.ofit_input.specs.Stops.{Stops};
 
-use ofit_answer::{Answer, Refusal, Which};
+use crate::refusal::{Refusal, Which};
+use crate::stop::Stop;
+use ofit_num::LONGEST_FILE;
 use ofit_outside::{FetchFault, Folder};
 use std::alloc::Global;
-
-/// The longest file that is read, in bytes.
-const FILE_LIMIT: u64 = 33_554_432;
 
 /// The bytes of the file of this name and kind.
 pub(crate) fn fetch<F: Folder>(
@@ -15,17 +14,17 @@ pub(crate) fn fetch<F: Folder>(
     folder: &mut F,
     name: &str,
     which: Which,
-) -> Result<Vec<u8>, Answer>
+) -> Result<Vec<u8>, Stop>
     ensures bytes { IfOk result (λ bytes. IsFile (F.held folder.old) name.now bytes.items) }
-    ensures stops { IfErr result (λ answer. Stops (F.faults folder.old) (F.faults folder.new) (FileRefusal (F.held folder.old) name.now which) answer) }
+    ensures stops { IfErr result (λ stop. Stops (F.faults folder.old) (F.faults folder.new) (FileRefusal (F.held folder.old) name.now which) stop) }
     ensures stays { OnOk result (F.faults folder.new ≡ F.faults folder.old) }
     ensures held { F.held folder.new ≡ F.held folder.old }
 {
-    match folder.fetch(alloc, name, FILE_LIMIT) {
+    match folder.fetch(alloc, name, LONGEST_FILE) {
         Ok(bytes) => Ok(bytes),
-        Err(FetchFault::Failed) => Err(Answer::ReadFault),
-        Err(FetchFault::Missing) => Err(Answer::Refused(Refusal::FileMissing(which))),
-        Err(FetchFault::Long) => Err(Answer::Refused(Refusal::FileLong(which))),
-        Err(FetchFault::Memory) => Err(Answer::Memory),
+        Err(FetchFault::Failed) => Err(Stop::ReadFault),
+        Err(FetchFault::Missing) => Err(Stop::Refused(Refusal::FileMissing(which))),
+        Err(FetchFault::Long) => Err(Stop::Refused(Refusal::FileLong(which))),
+        Err(FetchFault::Memory) => Err(Stop::Memory),
     }
 }

@@ -1,12 +1,18 @@
-//! The inputs of a run: the study that the words name, and the sheet that is to be verified, each read
-//! from a folder's files; or the first refusal.
+//! The inputs of a run: what a job works on, read from the files that its words name; or the first
+//! refusal.
 #![tactic(auto)]
 
 mod fetch;
+mod laws;
 mod order;
+mod ready;
+mod refusal;
 mod sheet;
+mod stop;
 mod study;
 mod table;
 
-pub use sheet::sheet_from;
-pub use study::study_from;
+pub use laws::inputs_are_given_in_one_way;
+pub use ready::{Ready, ready_from};
+pub use refusal::{Refusal, Which};
+pub use stop::Stop;

@@ -2,28 +2,24 @@
 use Rattle.std.proofs.Common.{◌≡◌, ℕ, ◌*◌, ◌-◌, ◌^◌, ◌<◌, ◌≤◌, inl, inr, List, ap, ◌∙◌, arith, mul-pos, mul-le-mul_left}
 use Rattle.std.proofs.lemmas.Bool.{cases_order}
 use Rattle.std.proofs.lemmas.Int.{ints, by_lt_z}
-use Rattle.std.specs.Prelude.{Bool, true, false, ℤ, pos, ◌+ℤ◌, ◌-ℤ◌, ◌*ℤ◌, ◌≤ℤ◌, ◌<ℤ◌}
+use Rattle.std.specs.Prelude.{Bool, ℤ, pos, ◌+ℤ◌, ◌-ℤ◌, ◌*ℤ◌, ◌<ℤ◌}
 use borrow.Author.Differences.{up}
 use Rattle.ofit_num.specs.declared.row.Row.{Row}
 use Rattle.ofit_num.specs.Meaning.{Meaning}
 use Rattle.ofit_num.specs.Fraction.{Fraction, SameValue, Below}
-use Rattle.ofit_num.specs.Block.{IsCost}
 use Rattle.ofit_num.proofs.Gap.{is_gap, gap-same, gap-add, gap-mul, pos-gap, distr}
 use Rattle.ofit_num.proofs.Order.{natural, mul_strict, zero_mul_ℤ, mul_zero_ℤ, swap_ℤ, pow_above}
 use Rattle.ofit_loss.specs.Rows.{AreFittable}
 use Rattle.ofit_loss.specs.Laws.{HasLossLaws}
 use Rattle.ofit_loss.proofs.ProblemLaws.{some_degree}
 use Rattle.ofit_loss.specs.Least.{IsLeastMinimiser, IsLeastOfCheapest}
+use Rattle.ofit_num.proofs.Falls.{cost_least}
 
 -- Of two least minimisers neither is smaller.
 pub same_least : (m : Meaning) (strict : Bool) (rows : List Row) (c b : Fraction) → IsLeastMinimiser m strict rows c → IsLeastMinimiser m strict rows b → SameValue c b
 same_least m strict rows c b hc hb = by_lt_z (c.num *ℤ pos b.den) (b.num *ℤ pos c.den)
     (λ below. absurd (omega (arith, ints, hb.smaller c hc.den below, hc.least)))
     (λ low. by_lt_z (b.num *ℤ pos c.den) (c.num *ℤ pos b.den) (λ below. absurd (omega (arith, ints, hc.smaller b hb.den below, hb.least))) (λ high. omega (arith, ints, low, high)))
-
-not_below : (strict : Bool) (x : ℤ) → IsCost strict x → pos 0 ≤ℤ x
-not_below true x h = h
-not_below false x h = omega (arith, ints, h)
 
 nothing : (n x : ℤ) → n *ℤ (pos 0 *ℤ x) ≡ pos 0
 nothing n x = ap (λ (z : ℤ). n *ℤ z) (zero_mul_ℤ x) ∙ mul_zero_ℤ n
@@ -76,7 +72,7 @@ module _ (m : Meaning) (strict : Bool) (laws : HasLossLaws m strict) (rows : Lis
   no_dearer c b h lb = omega (
     arith,
     ints,
-    (laws.support rows fit).support c.num b.num c.den b.den h.den lb (pos 0) h.least (not_below strict _ h.greatest),
+    (laws.support rows fit).support c.num b.num c.den b.den h.den lb (pos 0) h.least (cost_least strict _ h.greatest),
     nothing (pos (m.degree * b.den ^ (m.degree - 1))) (b.num *ℤ pos c.den -ℤ c.num *ℤ pos b.den),
   )
 

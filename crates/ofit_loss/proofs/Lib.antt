@@ -10,3 +10,5 @@ pub mod StrictLoss
 pub mod Heaps
 pub mod QuantileLeast
 pub mod MedianRow
+pub mod MaxMin
+pub mod Plain

@@ -11,6 +11,7 @@ use Rattle.ofit_num.specs.Limits.{IsRowWithinLimits, AreWithinLimits, total_weig
 use Rattle.ofit_num.specs.Loss.{int_row_sum}
 use Rattle.ofit_num.proofs.RowSums.{int_row_sum-append}
 use Rattle.ofit_loss.specs.Squares.{weighted_sum}
+use Rattle.ofit_num.proofs.Order.{size_add}
 
 abs_neg : (m : ℕ) → unsigned_abs (neg_ℤ (pos m)) ≡ m
 abs_neg zero = refl
@@ -38,12 +39,10 @@ weighted_size [] h = omega arith
 weighted_size (r ∷ rows) h = omega (
   arith,
   sum_by-cons (λ (r : Row). r.weight) r rows,
-  added (r.value *ℤ pos r.weight) (weighted_sum rows),
+  size_add (r.value *ℤ pos r.weight) (weighted_sum rows),
   product_le r.value r.weight (10 ^ 9) (All-head IsRowWithinLimits r rows h).value,
   weighted_size rows (All-tail IsRowWithinLimits r rows h),
-) where
-  added : (a b : ℤ) → unsigned_abs (a +ℤ b) ≤ unsigned_abs a + unsigned_abs b
-  added a b = omega (arith, ints)
+)
 
 pub weighted_limit : (rows : List Row) → AreWithinLimits rows → unsigned_abs (weighted_sum rows) ≤ 10 ^ 19
 weighted_limit rows h = omega (arith, weighted_size rows h.each, mul-le-mul_left (10 ^ 9) h.together)

@@ -1,5 +1,5 @@
 -- The weighted mean is the least minimiser under squares, and the balances there are small.
-use Rattle.std.proofs.Common.{◌≡◌, ℕ, ◌+◌, ◌*◌, ◌≤◌, ◌<◌, ◌^◌, List, [], ◌∷◌, length, sym, ap, ap₂, ◌∙◌, subst, arith, mul-le-mul_left}
+use Rattle.std.proofs.Common.{◌≡◌, ℕ, ◌*◌, ◌≤◌, ◌<◌, ◌^◌, List, [], ◌∷◌, length, sym, ap, ap₂, ◌∙◌, subst, arith, mul-le-mul_left}
 use Rattle.std.proofs.lemmas.Nat.{mul-le}
 use Rattle.std.proofs.lemmas.Int.{ints, by_lt_z, unsigned_abs-mul}
 use Rattle.std.specs.Prelude.{ℤ, pos, true, max, ◌+ℤ◌, ◌-ℤ◌, ◌*ℤ◌, ◌<ℤ◌, unsigned_abs}
@@ -7,7 +7,7 @@ use Rattle.ofit_num.specs.declared.row.Row.{Row}
 use Rattle.ofit_num.specs.Fraction.{Fraction, Below}
 use Rattle.ofit_num.specs.Limits.{IsRowWithinLimits, AreWithinLimits, total_weight}
 use Rattle.ofit_num.specs.Loss.{residual, squared_end, squares}
-use Rattle.ofit_num.proofs.Order.{mul_pos, zero_mul_ℤ, swap_ℤ}
+use Rattle.ofit_num.proofs.Order.{mul_pos, zero_mul_ℤ, swap_ℤ, size_sub}
 use Rattle.ofit_num.proofs.RowSums.{row_sum-sum_by}
 use Rattle.ofit_loss.specs.Squares.{weighted_sum}
 use Rattle.ofit_loss.specs.Least.{IsLeastMinimiser, balance_sizes}
@@ -49,15 +49,13 @@ least_minimiser rows c fit some l same =
 row_size : (r : Row) (p : ℤ) (q : ℕ) → unsigned_abs r.value ≤ 10 ^ 9 → unsigned_abs p ≤ 10 ^ 21 → q ≤ 10 ^ 12 → unsigned_abs (pos q *ℤ (r.value *ℤ pos r.weight) -ℤ p *ℤ pos r.weight) ≤ 2 * 10 ^ 21 * r.weight
 row_size r p q v n d = omega (
   arith,
-  difference (pos q *ℤ (r.value *ℤ pos r.weight)) (p *ℤ pos r.weight),
+  size_sub (pos q *ℤ (r.value *ℤ pos r.weight)) (p *ℤ pos r.weight),
   unsigned_abs-mul (pos q) (r.value *ℤ pos r.weight),
   ap (λ (k : ℕ). q * k) (unsigned_abs-mul r.value (pos r.weight)),
   unsigned_abs-mul p (pos r.weight),
   mul-le-mul_left r.weight n,
   mul-le-mul_left r.weight (mul-le q (unsigned_abs r.value) (10 ^ 12) (10 ^ 9) d v),
-) where
-  difference : (a b : ℤ) → unsigned_abs (a -ℤ b) ≤ unsigned_abs a + unsigned_abs b
-  difference a b = omega (arith, ints)
+)
 
 pub balances_within : (rows : List Row) (c : Fraction) → AreWithinLimits rows → unsigned_abs c.num ≤ 10 ^ 21 → c.den ≤ 10 ^ 12 → balance_sizes squares rows c ≤ 2 * 10 ^ 33
 balances_within rows c fit n d = omega (arith, sizes_within _ (2 * 10 ^ 21) rows fit.each each, mul-le-mul_left (2 * 10 ^ 21) fit.together) where

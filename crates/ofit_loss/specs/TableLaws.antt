@@ -1,12 +1,12 @@
 -- Squares and the median have the laws of a loss. The proofs stand here since an impl cites no proof of its own crate.
-use Rattle.std.specs.Prelude.{◌≡◌, ℕ, zero, suc, ◌+◌, ◌*◌, ◌<◌, refl, true, false, List, [], ◌∷◌, length, ℤ, pos, negsuc, ◌+ℤ◌, ◌-ℤ◌, ◌*ℤ◌, ◌<ℤ◌}
+use Rattle.std.specs.Prelude.{◌≡◌, ℕ, ◌+◌, ◌*◌, ◌<◌, refl, true, false, List, [], ◌∷◌, length, ℤ, pos, ◌+ℤ◌, ◌-ℤ◌, ◌*ℤ◌, ◌<ℤ◌, Bool, Any, ◌⊎◌}
 use Rattle.std.proofs.Common.{inl, inr, sym, ap, ap₂, ◌∙◌, subst, arith}
 use Rattle.std.proofs.lemmas.Int.{ints}
 use Rattle.std.proofs.lemmas.List.Elements.{All-head}
 use Rattle.ofit_num.specs.declared.row.Row.{Row}
 use Rattle.ofit_num.specs.Problem.{Problem, no_bounds}
 use Rattle.ofit_num.specs.Limits.{IsRowWithinLimits, AreWithinLimits}
-use Rattle.ofit_num.specs.Loss.{residual, factor_of, row_sum, squared_end, squares, median}
+use Rattle.ofit_num.specs.Loss.{residual, row_sum, squared_end, squares, median, Factors, table_loss}
 use Rattle.ofit_num.proofs.Gap.{is_gap, gap-same, gap-add, gap-sub, gap-mul, pos-gap}
 use Rattle.ofit_num.proofs.Order.{mul_strict, mul_zero_ℤ}
 use Rattle.ofit_num.proofs.RowSums.{row_sum-append, int_row_sum-append}
@@ -15,6 +15,9 @@ use Rattle.ofit_num.proofs.TableSupport.{absolute-support, squared-support}
 use Rattle.ofit_num.proofs.TableFalling.{absolute-falling, squared-falling}
 use Rattle.ofit_loss.specs.Squares.{weighted_sum}
 use Rattle.ofit_loss.specs.Laws.{FallsStrictly, HasLossLaws}
+use Rattle.ofit_num.proofs.StrictSquares.{factor_one}
+use Rattle.ofit_num.specs.Law.{HasSupport, HasFallingSpans, HasScaling}
+use Rattle.ofit_loss.specs.Rows.{IsPlain, AreFittable}
 
 -- the problem of one group
 abbrev one_group : List Row → Problem
@@ -23,34 +26,39 @@ one_group rows = record { count = 1; rows = λ g. rows; pairs = []; bounds = no_
 first : 0 < 1
 first = omega arith
 
+-- The laws of a loss of the table, from its laws over each problem.
+module _ (d : ℕ) (k : Factors) (scaling : (s : Problem) → HasScaling (table_loss d k) s) (support : (s : Problem) → HasSupport (table_loss d k) s) (falling : (s : Problem) → HasFallingSpans (table_loss d k) s) (strict : Bool)
+    (strictness : strict ≡ true → (rows : List Row) → AreFittable rows → Any IsPlain rows → FallsStrictly (table_loss d k) rows) where
+  pub table-laws : (d ≡ 1) ⊎ (d ≡ 2) → HasLossLaws (table_loss d k) strict
+  table-laws degree = record {
+    degree = degree;
+    none = record { cost = λ p q l. refl; least = λ p q l. refl; greatest = λ p q l. refl };
+    sums = λ xs ys fit. record {
+      cost = λ p q l. row_sum-append _ xs ys;
+      least = λ p q l. int_row_sum-append _ xs ys;
+      greatest = λ p q l. int_row_sum-append _ xs ys;
+    };
+    scaling = λ rows fit. record {
+      cost = λ k q p l lq. (scaling (one_group rows)).cost 0 first k q p l lq;
+      least = λ k q p l lq. (scaling (one_group rows)).least 0 first k q p l lq;
+      greatest = λ k q p l lq. (scaling (one_group rows)).greatest 0 first k q p l lq;
+    };
+    support = λ rows fit. record {
+      ordered = λ p q l. (support (one_group rows)).ordered 0 first p q l;
+      support = λ p p' q q' l l' b. (support (one_group rows)).support 0 first p p' q q' l l' b;
+    };
+    falling = λ rows fit. record { falls = λ c b l l' h. (falling (one_group rows)).falls 0 first c b l l' h };
+    strictness = strictness;
+  }
+
+-- residuals that count the same above and below
+abbrev even : Factors
+even = record { above = 1; below = 1 }
+
 pub median-laws : HasLossLaws median false
-median-laws = record {
-  degree = inl refl;
-  none = record { cost = λ p q l. refl; least = λ p q l. refl; greatest = λ p q l. refl };
-  sums = λ xs ys fit. record {
-    cost = λ p q l. row_sum-append _ xs ys;
-    least = λ p q l. int_row_sum-append _ xs ys;
-    greatest = λ p q l. int_row_sum-append _ xs ys;
-  };
-  scaling = λ rows fit. record {
-    cost = λ k q p l lq. (absolute-scaling _ (one_group rows)).cost 0 first k q p l lq;
-    least = λ k q p l lq. (absolute-scaling _ (one_group rows)).least 0 first k q p l lq;
-    greatest = λ k q p l lq. (absolute-scaling _ (one_group rows)).greatest 0 first k q p l lq;
-  };
-  support = λ rows fit. record {
-    ordered = λ p q l. (absolute-support _ (one_group rows)).ordered 0 first p q l;
-    support = λ p p' q q' l l' b. (absolute-support _ (one_group rows)).support 0 first p p' q q' l l' b;
-  };
-  falling = λ rows fit. record { falls = λ c b l l' h. (absolute-falling _ (one_group rows)).falls 0 first c b l l' h };
-  strictness = λ strict. absurd (no_strict strict);
-} where
+median-laws = table-laws 1 even (absolute-scaling even) (absolute-support even) (absolute-falling even) false (λ strict. absurd (no_strict strict)) (inl refl) where
   no_strict : false ≡ true → ⊥
   no_strict e = cc
-
-factor_one : (z : ℤ) → factor_of (record { above = 1; below = 1 }) z ≡ 1
-factor_one (pos zero) = refl
-factor_one (pos (suc n)) = refl
-factor_one (negsuc n) = refl
 
 pub row_balance : (r : Row) (p : ℤ) (q : ℕ) → squared_end (record { above = 1; below = 1 }) r.weight (residual r p q) ≡ pos q *ℤ (r.value *ℤ pos r.weight) -ℤ p *ℤ pos r.weight
 row_balance r p q = ap (λ (c : ℕ). pos (r.weight * c) *ℤ residual r p q) (factor_one (residual r p q)) ∙ turned r.weight r.value p q where
@@ -96,23 +104,4 @@ strict rows l = record { falls = λ c b lc lb h. powers _ _ _ _ _ _ _ _ (first_p
       (subst (λ (z : ℤ). (z *ℤ pos i) <ℤ (x *ℤ pos j)) (sym ey) (subst (λ (z : ℤ). (y' *ℤ pos i) <ℤ (z *ℤ pos j)) (sym ex) h)))
 
 pub squares-laws : HasLossLaws squares true
-squares-laws = record {
-  degree = inr refl;
-  none = record { cost = λ p q l. refl; least = λ p q l. refl; greatest = λ p q l. refl };
-  sums = λ xs ys fit. record {
-    cost = λ p q l. row_sum-append _ xs ys;
-    least = λ p q l. int_row_sum-append _ xs ys;
-    greatest = λ p q l. int_row_sum-append _ xs ys;
-  };
-  scaling = λ rows fit. record {
-    cost = λ k q p l lq. (squared-scaling _ (one_group rows)).cost 0 first k q p l lq;
-    least = λ k q p l lq. (squared-scaling _ (one_group rows)).least 0 first k q p l lq;
-    greatest = λ k q p l lq. (squared-scaling _ (one_group rows)).greatest 0 first k q p l lq;
-  };
-  support = λ rows fit. record {
-    ordered = λ p q l. (squared-support _ (one_group rows)).ordered 0 first p q l;
-    support = λ p p' q q' l l' b. (squared-support _ (one_group rows)).support 0 first p p' q q' l l' b;
-  };
-  falling = λ rows fit. record { falls = λ c b l l' h. (squared-falling _ (one_group rows)).falls 0 first c b l l' h };
-  strictness = λ same rows fit plain. strict rows (some_weight rows fit.limits (omega arith));
-}
+squares-laws = table-laws 2 even (squared-scaling even) (squared-support even) (squared-falling even) true (λ same rows fit plain. strict rows (some_weight rows fit.limits (omega arith))) (inr refl)

@@ -1,7 +1,10 @@
-ghost use Rattle.std.specs.Prelude.{◌≡◌, ℕ, ◌+◌, ◌<◌, ◌↔◌, true, false, List, length, ℤ, pos, ◌-ℤ◌, ◌*ℤ◌};
+ghost use Rattle.std.specs.Prelude.{◌≡◌, ℕ, ◌+◌, ◌<◌, ◌↔◌, true, false, List, length, slice_get, Some, None, ℤ, pos, ◌-ℤ◌, ◌*ℤ◌};
 ghost use Rattle.ofit_num.specs.declared.row.Row.{Row};
 ghost use Rattle.ofit_num.specs.Problem.{Problem};
+ghost use Rattle.ofit_num.specs.Clipped.{HasConstantBounds};
 ghost use Rattle.ofit_num.specs.Fraction.{Fraction, SameValue, IsLowest};
+ghost use Rattle.ofit_num.specs.Fit.{BestValues};
+ghost use Rattle.ofit_num.specs.MaxMin.{MaxMin};
 ghost use Rattle.ofit_num.specs.Law.{HasSupport, HasFallingSpans, HasScaling};
 ghost use Rattle.ofit_num.specs.Loss.{squares, median};
 ghost use Rattle.ofit_num.specs.Limits.{total_weight};
@@ -67,4 +70,12 @@ pub fn squares_are_least_at_the_weighted_mean()
 pub fn medians_are_least_at_a_row()
     ensures { (rows : List Row) (c : Fraction) → IsLowest c → IsLeastMinimiser median false rows c
         → (c.den ≡ 1) × IsLeastRowValue 1 1 rows c.num }
+{}
+
+/// The max-min formula (Robertson, Wright and Dykstra, 1988, chapter 1): without bounds each value of
+/// best values under squares is the greatest, over the upper sets that hold its group, of the least,
+/// over the lower sets that hold it, of the weighted mean of the groups in both.
+pub fn best_squares_are_max_min()
+    ensures { (s : Problem) (values : List Fraction) → HasConstantBounds s None None → BestValues squares s values
+        → (g : ℕ) (v : Fraction) → slice_get values g ≡ Some v → MaxMin s g v }
 {}

@@ -12,9 +12,10 @@ mod quantile;
 mod squares;
 
 pub use laws::{
-    least_minimiser_is_one, least_minimisers_cost_least, losses_mean_the_table,
-    medians_are_least_at_a_row, medians_balance_the_weights, problems_have_the_laws,
-    squares_are_least_at_the_weighted_mean, squares_balance_the_weighted_sum,
+    best_squares_are_max_min, least_minimiser_is_one, least_minimisers_cost_least,
+    losses_mean_the_table, medians_are_least_at_a_row, medians_balance_the_weights,
+    problems_have_the_laws, squares_are_least_at_the_weighted_mean,
+    squares_balance_the_weighted_sum,
 };
 pub use loss::Loss;
 pub use median::Median;

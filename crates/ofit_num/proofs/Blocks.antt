@@ -1,7 +1,7 @@
 -- blocks that absorb one another, as in the fits of chains and trees whose root is greatest
-use Rattle.std.proofs.Common.{◌≡◌, ℕ, zero, suc, ◌-◌, ◌^◌, ◌<◌, refl, sym, ap, subst, ◌∙◌, arith, cond, Bool, true, false, ◌||◌, ◌&&◌, ◌⊎◌, inl, inr}
+use Rattle.std.proofs.Common.{◌≡◌, ℕ, zero, suc, ◌-◌, ◌^◌, ◌<◌, refl, ap, subst, ◌∙◌, arith, cond, Bool, true, false, ◌||◌, ◌&&◌, ◌⊎◌, inl, inr}
 use Rattle.std.proofs.lemmas.Int.{ints, by_lt_z}
-use Rattle.std.proofs.lemmas.Bool.{cases_order}
+use Rattle.std.proofs.lemmas.Bool.{cases_order, both_ways}
 use Rattle.std.specs.Prelude.{ℤ, pos, ◌+ℤ◌, ◌*ℤ◌, ◌≤ℤ◌, ◌<ℤ◌, All}
 use Rattle.ofit_num.specs.Problem.{Problem}
 use Rattle.ofit_num.specs.Meaning.{Meaning}
@@ -13,11 +13,11 @@ use Rattle.ofit_num.specs.Settled.{IsFitted, LosesByLowering}
 use Rattle.ofit_num.specs.Block.{IsPooled, IsBlock, IsCost}
 use Rattle.ofit_num.proofs.Gap.{is_gap, gap-same, gap-mul, pos-gap}
 use Rattle.ofit_num.proofs.Order.{mul_pos, mul_strict, pow_above, zero_mul_ℤ}
-use Rattle.ofit_num.proofs.Cuts.{difference, set_sum-difference, not_both, but_not, not_but}
+use Rattle.ofit_num.proofs.Cuts.{difference, set_sum-difference, not_both, union, set_sum-union}
 use Rattle.ofit_num.proofs.Pieces.{meet, set_sum-split, both_and}
 use Rattle.ofit_num.proofs.Recursion.{not_below, part_fitted, part_loses}
 use Rattle.ofit_num.proofs.Parts.{in_part, base_in, child_in, upper_part, lower_part}
-use Rattle.ofit_num.proofs.Falls.{cost_least, cost_more, rest_upper, rest_lower, rest_within, rest_out, cost_falls, least_stays, least_over_greatest}
+use Rattle.ofit_num.proofs.Falls.{cost_least, cost_more, rest_upper, rest_lower, rest_within, rest_out, cost_falls, least_stays, least_over_greatest, no_rest}
 
 -- a set has a place, or it has none
 pub member_or_none : (a : ℕ → Bool) (n : ℕ) → ((g : ℕ) × (g < n) × (a g ≡ true)) ⊎ ((g : ℕ) → g < n → a g ≡ false)
@@ -38,6 +38,11 @@ set_sum-none a c (suc n) h = ap (λ (x : Bool). set_sum a c n +ℤ cond x (c n) 
 pub set_sum-equal : (a b : ℕ → Bool) (c : ℕ → ℤ) (n : ℕ) → ((g : ℕ) → g < n → a g ≡ b g) → set_sum a c n ≡ set_sum b c n
 set_sum-equal a b c zero h = refl
 set_sum-equal a b c (suc n) h = ap (λ (x : Bool). set_sum a c n +ℤ cond x (c n) (pos 0)) (h n (omega arith)) ∙ ap (λ (z : ℤ). z +ℤ cond (b n) (c n) (pos 0)) (set_sum-equal a b c n (λ g l. h g (omega arith)))
+
+-- a sum over two sets that have no place in common
+pub set_sum-both : (piece u w : ℕ → Bool) (f : ℕ → ℤ) (n : ℕ) → ((g : ℕ) → g < n → piece g ≡ (u g || w g)) → ((g : ℕ) → g < n → u g ≡ true → w g ≡ false) → set_sum piece f n ≡ set_sum u f n +ℤ set_sum w f n
+unfolding union
+set_sum-both piece u w f n parts apart = set_sum-equal piece (union u w) f n parts ∙ set_sum-union u w f n apart
 
 -- what is below a value is below each greater one
 pub below_trans : (a b c : Fraction) → 0 < a.den → 0 < b.den → 0 < c.den → Below a b → AtMost b c → Below a c
@@ -60,23 +65,15 @@ below_trans a b c la lb lc h k = cancel_lt (a.num *ℤ pos c.den) (c.num *ℤ po
 module _ (m : Meaning) (s : Problem) (law : HasFallingSpans m s) where
   module _ (strict : Bool) (piece : ℕ → Bool) (top : ℕ) (value limit : Fraction) (block : IsBlock m s strict piece top value limit) where
     -- a lower set with the top is the whole block
-    lower_with_top : (b : ℕ → Bool) → IsWithin s piece b → IsLowerIn s piece b → b top ≡ true → (g : ℕ) → g < s.count → b g ≡ piece g
-    unfolding difference
-    lower_with_top b inside lower t g l = go (b g) (piece g) refl refl where
-      outside : piece g ≡ true → b g ≡ false → ⊥
-      outside p n = not_both (b top) t (but_not (piece top) (b top) (block.reaches (difference piece b) (rest_within s piece b) (rest_upper s piece b lower) g l (not_but (piece g) (b g) p n))).1
-
-      go : (x y : Bool) → b g ≡ x → piece g ≡ y → x ≡ y
-      go true true e f = refl
-      go false false e f = refl
-      go true false e f = not_both (piece g) (inside.each g l e) f
-      go false true e f = absurd (outside f e)
+    pub lower_with_top : (b : ℕ → Bool) → IsWithin s piece b → IsLowerIn s piece b → b top ≡ true → (g : ℕ) → g < s.count → piece g ≡ b g
+    lower_with_top b inside lower t =
+        no_rest s piece b inside (λ g l u. both_ways (difference piece b top) (rest_out piece b top t) (block.reaches (difference piece b) (rest_within s piece b) (rest_upper s piece b lower) g l u))
 
     -- Lowering any of its lower sets costs.
     pub block_costs : (b : ℕ → Bool) → IsWithin s piece b → IsLowerIn s piece b → (g : ℕ) → g < s.count → b g ≡ true → IsCost strict (set_sum b (greatest_at m s value) s.count)
     block_costs b inside lower g l k = go (b top) refl where
       go : (x : Bool) → b top ≡ x → IsCost strict (set_sum b (greatest_at m s value) s.count)
-      go true t = subst (IsCost strict) (sym (set_sum-equal b piece (greatest_at m s value) s.count (lower_with_top b inside lower t))) block.pooled_costs
+      go true t = subst (IsCost strict) (set_sum-equal piece b (greatest_at m s value) s.count (lower_with_top b inside lower t)) block.pooled_costs
       go false t = cost_falls m s law strict b value limit block.pooled.den block.limit_den block.within (block.costs b inside lower t g l k)
 
     pub block_lowered : (b : ℕ → Bool) → IsWithin s piece b → IsLowerIn s piece b → pos 0 ≤ℤ set_sum b (greatest_at m s value) s.count
@@ -92,31 +89,8 @@ module _ (m : Meaning) (s : Problem) (law : HasFallingSpans m s) where
       (order : AtMost b c) (limit : AtMost c be)
       (reaches : (a : ℕ → Bool) → IsWithin s piece a → IsUpperIn s piece a → (g : ℕ) → g < s.count → a g ≡ true → a top ≡ true)
       (pooled : IsPooled m s piece t) (pooled_costs : IsCost strict (set_sum piece (greatest_at m s t) s.count)) where
-    whole : IsWithin s piece piece
-    whole = record { each = λ g l k. k }
-
     parts : (f : ℕ → ℤ) → set_sum piece f s.count ≡ set_sum base f s.count +ℤ set_sum child f s.count
-    parts f = set_sum-split s piece base child piece f cut whole s.count (omega arith)
-        ∙ pair (set_sum-equal (meet piece base) base f s.count (λ g l. into_base g l (base g) refl)) (set_sum-equal (meet piece child) child f s.count (λ g l. into_child g l (child g) refl)) where
-          pair : {x y z w : ℤ} → x ≡ y → z ≡ w → x +ℤ z ≡ y +ℤ w
-          pair {x} {y} {z} {w} p q = omega (arith, ints)
-
-          into_base : (g : ℕ) → g < s.count → (x : Bool) → base g ≡ x → (piece g && x) ≡ x
-          into_base g l true e = both_and (piece g) true (cut.parts g l ∙ ap (λ (y : Bool). y || child g) e) refl
-          into_base g l false e = none (piece g) where
-            none : (y : Bool) → (y && false) ≡ false
-            none true = refl
-            none false = refl
-
-          into_child : (g : ℕ) → g < s.count → (x : Bool) → child g ≡ x → (piece g && x) ≡ x
-          into_child g l true e = both_and (piece g) true (cut.parts g l ∙ last (base g) (child g) e) refl where
-            last : (y z : Bool) → z ≡ true → (y || z) ≡ true
-            last true z e = refl
-            last false z e = e
-          into_child g l false e = none (piece g) where
-            none : (y : Bool) → (y && false) ≡ false
-            none true = refl
-            none false = refl
+    parts f = set_sum-both piece base child f s.count cut.parts cut.apart
 
     -- the pooled value lies between the two
     at_most_child : AtMost t c

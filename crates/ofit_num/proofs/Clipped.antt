@@ -13,7 +13,7 @@ use Rattle.ofit_num.specs.Sets.{set_sum, IsClosedUp, IsClosedDown}
 use Rattle.ofit_num.specs.Settled.{IsSettled, IsLeastSettled, CanRise, CanFall}
 use Rattle.ofit_num.specs.Clipped.{without_bounds, HasConstantBounds, AreOrdered, raised_to, lowered_to, clipped}
 use Rattle.ofit_num.proofs.Order.{mul_pos, mul_strict, pow_above, cancel_le_ℤ}
-use Rattle.ofit_num.proofs.Levels.{set_sum-members}
+use Rattle.ofit_num.proofs.Falls.{set_sum-members}
 
 -- numbers that rise, still rise when they are cut off
 raised_mono : (o : Option ℤ) (q : ℕ) (v w : ℤ) → v ≤ℤ w → raised_to o q v ≤ℤ raised_to o q w

@@ -26,10 +26,10 @@ record IsValue (v : ℤ) (q : ℕ) (f : Fraction) : Type 0 where
   den : 0 < f.den
   value : v *ℤ pos f.den ≡ f.num *ℤ pos q
 
-test_less : (x y : ℤ) → int_lt x y ≡ true → x <ℤ y
+pub test_less : (x y : ℤ) → int_lt x y ≡ true → x <ℤ y
 test_less x y e = omega (arith, ints)
 
-test_least : (x y : ℤ) → int_lt x y ≡ false → y ≤ℤ x
+pub test_least : (x y : ℤ) → int_lt x y ≡ false → y ≤ℤ x
 test_least x y e = omega (arith, ints)
 
 -- what is at most, or at least, a whole number over one denominator is so over another

@@ -16,7 +16,8 @@ use Rattle.ofit_num.proofs.Cuts.{or_true, chosen_loses_nothing, chosen_loses, wi
 use Rattle.ofit_num.proofs.Blocks.{member_or_none, set_sum-none, set_sum-equal, below_trans}
 use Rattle.ofit_num.proofs.Recursion.{set_sum-le, not_above, above_zero, sum_falls, pooled_at_most, chosen_floor, rest_ceiling, rest_ceiling_second, chosen_ceiling}
 use Rattle.ofit_num.proofs.StrictBest.{FallStrictly}
-use Rattle.ofit_num.proofs.Levels.{has_label, is_label, set_sum-members}
+use Rattle.ofit_num.proofs.Levels.{has_label, is_label}
+use Rattle.ofit_num.proofs.Falls.{set_sum-members}
 
 pub same_test : (x y : Bool) → (x ≡ true → y ≡ true) → (y ≡ true → x ≡ true) → x ≡ y
 same_test true y f h = sym (f refl)

@@ -1,9 +1,9 @@
 -- where all parts are levels whose values rise along the pairs, the values are the fit
 use Rattle.std.proofs.Common.{◌≡◌, ℕ, zero, suc, ◌*◌, ◌<◌, refl, sym, ap, subst, ◌∙◌, arith, cond, mul-pos, Bool, true, false, ◌&&◌, List, inl, inr, ◌≢◌}
 use Rattle.std.proofs.lemmas.Int.{ints}
-use Rattle.std.proofs.lemmas.Bool.{cases_order, eqb-true, eq-eqb, and_right}
+use Rattle.std.proofs.lemmas.Bool.{eqb-true, eq-eqb, and_right}
 use Rattle.std.proofs.lemmas.Option.{slice_get_within, same_Some}
-use Rattle.std.specs.Prelude.{ℤ, pos, ◌+ℤ◌, ◌-ℤ◌, ◌*ℤ◌, ◌≤ℤ◌, ◌<ℤ◌, All, slice_get, Some, None, IfSome, slice_index_or}
+use Rattle.std.specs.Prelude.{ℤ, pos, ◌-ℤ◌, ◌*ℤ◌, ◌≤ℤ◌, ◌<ℤ◌, All, slice_get, Some, None, IfSome, slice_index_or}
 use Rattle.ofit_num.specs.Problem.{Problem, Bounds}
 use Rattle.ofit_num.specs.Meaning.{Meaning}
 use Rattle.ofit_num.specs.Fraction.{Fraction}
@@ -13,17 +13,17 @@ use Rattle.ofit_num.specs.Span.{is_at}
 use Rattle.ofit_num.specs.Law.{HasSupport, HasFallingSpans, HasScaling}
 use Rattle.ofit_num.specs.Sets.{set_sum, IsWithin, IsLowerIn, IsClosedUp, IsClosedDown, IsClosedUpIn, IsClosedDownIn}
 use Rattle.ofit_num.specs.Settled.{IsSettled, IsLeastSettled, IsFitted, LosesByLowering, CanRise, CanFall}
-use Rattle.ofit_num.specs.Block.{IsCost}
 use Rattle.ofit_num.specs.Level.{IsLevel, labelled, AreLevels}
-use Rattle.ofit_num.proofs.Gap.{is_gap, gap-same, gap-mul, gap-sub, pos-gap}
-use Rattle.ofit_num.proofs.Sums.{int_sum, int_sum-add, int_sum-at, int_sum-zero}
+use Rattle.ofit_num.proofs.Sums.{int_sum, int_sum-add, int_sum-at, int_sum-zero, int_sum-nonneg, int_sum-above}
 use Rattle.ofit_num.proofs.Trials.{scale_above, value_of-den}
-use Rattle.ofit_num.proofs.Order.{mul_pos, mul_strict, assoc_swap, mul_pos_mul, cancel_le_ℤ, cancel_ℤ, zero_mul_ℤ}
+use Rattle.ofit_num.proofs.Order.{cancel_ℤ}
 use Rattle.ofit_num.proofs.Pieces.{meet, and_both, both_and}
 use Rattle.ofit_num.proofs.Blocks.{member_or_none, set_sum-none}
 use Rattle.ofit_num.proofs.Recursion.{part_fitted, part_loses}
 use Rattle.ofit_num.proofs.Settled.{none_above}
 use Rattle.ofit_num.proofs.Lowered.{settled_lowest}
+use Rattle.ofit_num.proofs.Falls.{set_sum-members, cost_least}
+use Rattle.ofit_num.proofs.Values.{rising_values, lowered_below}
 
 pub has_label : (label : ℕ → ℕ) (k g : ℕ) → label g ≡ k → labelled label k g ≡ true
 has_label label k g e = eq-eqb (label g) k e
@@ -55,66 +55,8 @@ by_labels label a f (suc n) count below = omega (
   int_sum-add (λ k. set_sum (meet a (labelled label k)) f n) (λ k. cond (meet a (labelled label k) n) (f n) (pos 0)) count,
 )
 
-none_below : (f : ℕ → ℤ) (n : ℕ) → ((k : ℕ) → k < n → pos 0 ≤ℤ f k) → pos 0 ≤ℤ int_sum f n
-none_below f zero h = omega (arith, ints)
-none_below f (suc n) h = omega (arith, ints, none_below f n (λ k l. h k (omega arith)), h n (omega arith))
-
--- terms at least 0, of which one is above 0
-some_above : (f : ℕ → ℤ) (n k : ℕ) → k < n → ((k : ℕ) → k < n → pos 0 ≤ℤ f k) → pos 0 <ℤ f k → pos 0 <ℤ int_sum f n
-some_above f zero k l h p = absurd (omega arith)
-some_above f (suc n) k l h p = elim (cases_order k n) [
-  | inl e ↦ omega (arith, ints, none_below f n (λ k l. h k (omega arith)), subst (λ (i : ℕ). pos 0 <ℤ f i) e p)
-  | inr o ↦ elim o [
-    | inl b ↦ omega (arith, ints, some_above f n k b (λ k l. h k (omega arith)) p, h n (omega arith))
-    | inr b ↦ absurd (omega arith)
-  ]
-]
-
-cost_least : (strict : Bool) (x : ℤ) → IsCost strict x → pos 0 ≤ℤ x
-cost_least true x h = h
-cost_least false x h = omega (arith, ints)
-
--- v/q and w/q are n/d and k/e
-rising_values : (v w n k : ℤ) (d e q : ℕ) → 0 < d → 0 < e → v *ℤ pos d ≡ n *ℤ pos q → w *ℤ pos e ≡ k *ℤ pos q → (n *ℤ pos e) ≤ℤ (k *ℤ pos d) → v ≤ℤ w
-rising_values v w n k d e q ld le hv hw h = cancel_le_ℤ v w (e * d) (mul-pos le ld) (omega (
-  arith,
-  ints,
-  mul_pos_mul v d e,
-  mul_pos_mul w d e,
-  assoc_swap w (pos d) (pos e),
-  ap (λ (z : ℤ). z *ℤ pos e) hv,
-  ap (λ (z : ℤ). z *ℤ pos d) hw,
-  assoc_swap n (pos q) (pos e),
-  assoc_swap k (pos q) (pos d),
-  mul_pos (n *ℤ pos e) (k *ℤ pos d) q h,
-))
-
--- v/q less k/(q·r) is below n/d, where v/q is n/d
-lowered_below : (v n : ℤ) (d q r k : ℕ) → 0 < d → 0 < k → v *ℤ pos d ≡ n *ℤ pos q → ((v *ℤ pos r -ℤ pos k) *ℤ pos d) <ℤ (n *ℤ pos (q * r))
-lowered_below v n d q r k ld lk e = omega (
-  arith,
-  ints,
-  opened v (pos k) d r,
-  ap (λ (z : ℤ). z *ℤ pos r) e,
-  spread n q r,
-  mul_strict (pos 0) (pos k) d (omega (arith, ints)) ld,
-  zero_mul_ℤ (pos d),
-) where
-  opened : (v y : ℤ) (d r : ℕ) → (v *ℤ pos r -ℤ y) *ℤ pos d ≡ (v *ℤ pos d) *ℤ pos r -ℤ y *ℤ pos d
-  opened v y d r = rw (is_gap v, is_gap y) (simp (pos-gap, gap-mul, gap-sub) (gap-same _ _ _ _ (omega arith)))
-
-  spread : (n : ℤ) (q r : ℕ) → n *ℤ pos (q * r) ≡ (n *ℤ pos q) *ℤ pos r
-  spread n q r = rw (is_gap n) (simp (pos-gap, gap-mul) (gap-same _ _ _ _ (omega arith)))
-
 more : {x y : ℤ} → x ≤ℤ y → pos 0 <ℤ x → pos 0 <ℤ y
 more {x} {y} p q = omega (arith, ints)
-
-pub set_sum-members : (a : ℕ → Bool) (f h : ℕ → ℤ) (n : ℕ) → ((g : ℕ) → g < n → a g ≡ true → f g ≤ℤ h g) → set_sum a f n ≤ℤ set_sum a h n
-set_sum-members a f h zero le = omega (arith, ints)
-set_sum-members a f h (suc n) le = go (a n) refl (set_sum-members a f h n (λ g l u. le g (omega arith) u)) where
-  go : (x : Bool) → a n ≡ x → set_sum a f n ≤ℤ set_sum a h n → (set_sum a f n +ℤ cond x (f n) (pos 0)) ≤ℤ (set_sum a h n +ℤ cond x (h n) (pos 0))
-  go true u p = omega (arith, ints, le n (omega arith) u)
-  go false u p = omega (arith, ints)
 
 module _ (m : Meaning) (s : Problem) (strict : Bool) (law : HasFallingSpans m s) (places : All (λ e. (e.0 < s.count) × (e.1 < s.count)) s.pairs)
     (free : (g : ℕ) → s.bounds g ≡ record { lo = None; hi = None }) (label : ℕ → ℕ) (top : ℕ) (values : List Fraction) (h : AreLevels m s strict label top values) where
@@ -197,7 +139,7 @@ module _ (m : Meaning) (s : Problem) (strict : Bool) (law : HasFallingSpans m s)
   levels_settled = record {
     obeys = obeys;
     raised = λ a closed can. omega (arith, ints, parted a least_ends, none_above (λ k. set_sum (meet a (labelled label k)) least_ends s.count) top (λ k l. raised_part a closed k));
-    lowered = λ a closed can. omega (arith, ints, parted a greatest_ends, none_below (λ k. set_sum (meet a (labelled label k)) greatest_ends s.count) top (λ k l. lowered_part a closed k));
+    lowered = λ a closed can. omega (arith, ints, parted a greatest_ends, int_sum-nonneg (λ k. set_sum (meet a (labelled label k)) greatest_ends s.count) top (λ k l. lowered_part a closed k));
   }
 
   in_own : (a : ℕ → Bool) (g : ℕ) → a g ≡ true → meet a (labelled label (label g)) g ≡ true
@@ -211,7 +153,7 @@ module _ (m : Meaning) (s : Problem) (strict : Bool) (law : HasFallingSpans m s)
       arith,
       ints,
       parted a greatest_ends,
-      some_above (λ k. set_sum (meet a (labelled label k)) greatest_ends s.count) top (label g) (h.below g l) (λ k b. lowered_part a closed k)
+      int_sum-above (λ k. set_sum (meet a (labelled label k)) greatest_ends s.count) top (label g) (h.below g l) (λ k b. lowered_part a closed k)
           ((loses lax (label g) g l refl).loses (meet a (labelled label (label g))) (within a (label g)) (down_part a (label g) closed) g l (in_own a g u)),
     );
   }
@@ -254,7 +196,7 @@ module _ (m : Meaning) (s : Problem) (strict : Bool) (law : HasFallingSpans m s)
       arith,
       ints,
       parted a lower_ends,
-      some_above (λ k. set_sum (meet a (labelled label k)) lower_ends s.count) top (label g) (h.below g l) (λ k b. part_stays a closed k) (part_gains a closed (label g) g l (in_own a g u)),
+      int_sum-above (λ k. set_sum (meet a (labelled label k)) lower_ends s.count) top (label g) (h.below g l) (λ k b. part_stays a closed k) (part_gains a closed (label g) g l (in_own a g u)),
     )
 
   -- The values are the least of the best.

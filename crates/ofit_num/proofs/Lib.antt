@@ -13,6 +13,8 @@ pub mod Worked
 pub mod Sheets
 pub mod Coprime
 pub mod Lists
+pub mod Partings
+pub mod Ranges
 pub mod Unique
 pub mod Certified
 pub mod TableSupport
@@ -53,3 +55,6 @@ pub mod ClippedValues
 pub mod ClippedTable
 pub mod SettledEqual
 pub mod Pigeonhole
+pub mod Members
+pub mod Elements
+pub mod LoneBlocks

@@ -15,7 +15,7 @@ use Rattle.ofit_num.specs.Sets.{set_sum, IsClosedUp, IsClosedDown}
 use Rattle.ofit_num.specs.Settled.{IsSettled, CanRise, CanFall}
 use Rattle.ofit_num.proofs.Gap.{is_gap, gap-same, gap-add, gap-sub, gap-mul, pos-gap, distr}
 use Rattle.ofit_num.proofs.Order.{swap_ℤ, mul_zero_ℤ, zero_mul_ℤ, mul_pos, mul_strict, pow_above, cancel_le_ℤ, cancel_le, distr_left}
-use Rattle.ofit_num.proofs.Sums.{int_sum, sum_below-term, int_sum-add, int_sum-same, int_sum-zero, int_sum-mono, int_sum-scale, int_sum-pos}
+use Rattle.ofit_num.proofs.Sums.{int_sum, sum_below-term, int_sum-add, int_sum-same, int_sum-zero, int_sum-mono, int_sum-scale, int_sum-pos, int_sum-above}
 use Rattle.ofit_num.proofs.Layers.{layered}
 use Rattle.ofit_num.proofs.Scaling.{Best-equal}
 use Rattle.ofit_num.proofs.Settled.{settled_best, none_above, up_mono, down_mono, lt_from, lt_to}
@@ -53,18 +53,6 @@ levels f y (suc n) top h =
       level_sum (λ k. f k n) (y n) top (h n (omega arith)),
       int_sum-add (λ k. set_sum (λ g. nat_lt k (y g)) (f k) n) (λ k. cond (nat_lt k (y n)) (f k n) (pos 0)) top,
     )
-
--- terms at least 0, of which one is above 0
-nonneg_sum : (f : ℕ → ℤ) (n : ℕ) → ((k : ℕ) → k < n → pos 0 ≤ℤ f k) → pos 0 ≤ℤ int_sum f n
-nonneg_sum f zero h = omega (arith, ints)
-nonneg_sum f (suc n) h = omega (arith, ints, nonneg_sum f n (λ k l. h k (omega arith)), h n (omega arith))
-
-above_sum : (f : ℕ → ℤ) (n i : ℕ) → ((k : ℕ) → k < n → pos 0 ≤ℤ f k) → i < n → pos 0 <ℤ f i → pos 0 <ℤ int_sum f n
-above_sum f zero i h l p = absurd (omega arith)
-above_sum f (suc n) i h l p = elim (cases_order i n) [
-  | inl e ↦ omega (arith, ints, nonneg_sum f n (λ k b. h k (omega arith)), ap f e)
-  | inr o ↦ elim o [ inl b ↦ omega (arith, ints, above_sum f n i (λ k c. h k (omega arith)) b p, h n (omega arith)) | inr b ↦ absurd (omega arith) ]
-]
 
 -- a support over one denominator, with the common power taken away
 one_scale : (c e d q qa : ℕ) (b n : ℤ) → 0 < q → 0 < qa → pos (c * (q * qa)) ≤ℤ (pos (e * (q * qa)) +ℤ pos (d * qa) *ℤ (b *ℤ (n *ℤ pos q))) → pos c ≤ℤ (pos e +ℤ pos d *ℤ (b *ℤ n))
@@ -267,7 +255,7 @@ module _ (m : Meaning) (s : Problem) (places : HasPlaces s) (support : HasSuppor
       let two : 1 < h g = omega (arith, ints, even (u.value g) (t.value g) t.scale u.scale) in
       let here : h g ≤ top = sum_below-term h s.count g l in
       let total : pos 0 <ℤ int_sum (λ k. set_sum (lowered_past k) (λ g. m.greatest (s.rows g) (t.value g *ℤ pos (2 * u.scale) -ℤ pos k) (t.scale * (2 * u.scale))) s.count) top =
-      above_sum _ top 1 (λ k b. lost_level k) (omega arith) (below.gains (2 * u.scale) 1 r_above (omega arith) (lowered_past 1) (closed_down 1) g l (lt_to 1 (h g) two)) in
+      int_sum-above _ top 1 (omega arith) (λ k b. lost_level k) (below.gains (2 * u.scale) 1 r_above (omega arith) (lowered_past 1) (closed_down 1) g l (lt_to 1 (h g) two)) in
       omega (arith, ints, levels (λ k g. m.greatest (s.rows g) (t.value g *ℤ pos (2 * u.scale) -ℤ pos k) (t.scale * (2 * u.scale))) h s.count top (λ g l. sum_below-term h s.count g l), total)
 
   -- both trials over one scale

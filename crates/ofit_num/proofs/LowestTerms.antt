@@ -42,7 +42,7 @@ natural_size : (z : ℤ) → pos 1 ≤ℤ z → z ≡ pos (unsigned_abs z)
 natural_size (pos n) h = refl
 natural_size (negsuc n) h = absurd (omega (arith, ints))
 
-positive_size : (z : ℤ) → pos 1 ≤ℤ z → 0 < unsigned_abs z
+pub positive_size : (z : ℤ) → pos 1 ≤ℤ z → 0 < unsigned_abs z
 positive_size (pos n) h = omega (arith, ints)
 positive_size (negsuc n) h = absurd (omega (arith, ints))
 

@@ -3,7 +3,7 @@ use Rattle.std.proofs.Common.{inl, inr, ◌≡◌, ap, ℕ, ◌+◌, ◌*◌, �
 use Rattle.std.proofs.Math.Nat.{one-le-pow}
 use Rattle.std.proofs.lemmas.Bool.{cases_order}
 use Rattle.std.proofs.lemmas.Int.{ints, by_lt_z}
-use Rattle.std.specs.Prelude.{ℤ, pos, negsuc, ◌+ℤ◌, ◌*ℤ◌, ◌≤ℤ◌, ◌<ℤ◌}
+use Rattle.std.specs.Prelude.{ℤ, pos, negsuc, ◌+ℤ◌, ◌*ℤ◌, ◌≤ℤ◌, ◌<ℤ◌, ◌-ℤ◌, unsigned_abs}
 use borrow.Author.Differences.{up, down}
 use Rattle.ofit_num.proofs.Gap.{is_gap, gap-same, gap-le, gap-lt, gap-add, gap-mul, pos-gap}
 
@@ -104,3 +104,10 @@ equal_at_least a b c p q r l e h = cancel_le_ℤ _ _ p l (omega (
   assoc_swap b (pos p) (pos r),
   assoc_swap c (pos p) (pos q),
 ))
+
+-- sizes of a sum and of a difference
+pub size_add : (a b : ℤ) → unsigned_abs (a +ℤ b) ≤ unsigned_abs a + unsigned_abs b
+size_add a b = omega (arith, ints)
+
+pub size_sub : (a b : ℤ) → unsigned_abs (a -ℤ b) ≤ unsigned_abs a + unsigned_abs b
+size_sub a b = omega (arith, ints)

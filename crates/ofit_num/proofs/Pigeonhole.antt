@@ -1,13 +1,10 @@
 -- Distinct members of a list are no more than it has.
-use Rattle.std.proofs.Common.{◌≡◌, ◌≢◌, ◌≤◌, ◌⊎◌, ◌++◌, zero, suc, List, [], ◌∷◌, length, inl, inr, refl, ap, subst, arith}
+use Rattle.std.proofs.Common.{◌≡◌, ◌≢◌, ◌≤◌, ◌⊎◌, ◌++◌, List, [], ◌∷◌, length, inl, inr, refl, ap, subst, arith}
 use Rattle.std.specs.Prelude.{All, AllPairs, Contains}
 use Rattle.std.proofs.lemmas.List.{length-append}
 use Rattle.std.proofs.lemmas.List.Elements.{All-contains, Contains-append_cases, Contains-append_left, Contains-append_right}
 use Rattle.ofit_num.proofs.Sheets.{AllPairs-head, AllPairs-tail}
-
-cons_cases : {X : Type 0} (ys : List X) (y x : X) → Contains (y ∷ ys) x → (y ≡ x) ⊎ Contains ys x
-cons_cases ys y x (zero, l, e) = inl e
-cons_cases ys y x (suc k, l, e) = inr (k, omega (arith, l), e)
+use Rattle.ofit_num.proofs.Members.{cons_cases, Contains-cons}
 
 -- a list about one of its members
 record Around (X : Type 0) (ys : List X) (x : X) : Type 0 where
@@ -38,5 +35,5 @@ distinct_few {X} (x ∷ xs) ys apart among =
     let a = around ys x (among x (0, omega arith, refl)) in
     let others : All (λ b. x ≢ b) xs = AllPairs-head (λ a b. a ≢ b) x xs apart in
     let rest : length xs ≤ length (a.left ++ a.right) = distinct_few xs (a.left ++ a.right) (AllPairs-tail (λ a b. a ≢ b) x xs apart)
-    (λ z h. without a.left a.right x z (All-contains (λ b. x ≢ b) xs z others h) (subst (λ (t : List X). Contains t z) a.same (among z (suc h.0, omega (arith, h.1), h.2)))) in
+    (λ z h. without a.left a.right x z (All-contains (λ b. x ≢ b) xs z others h) (subst (λ (t : List X). Contains t z) a.same (among z (Contains-cons x xs z h)))) in
     omega (arith, rest, length-append a.left a.right, length-append a.left (x ∷ a.right), ap length a.same)

@@ -1,30 +1,27 @@
 -- the rows of groups, one group after another
-use Rattle.std.proofs.Common.{◌≡◌, ℕ, zero, suc, ◌+◌, ◌≤◌, List, [], ◌∷◌, ◌++◌, ap, sym, ◌∙◌, arith, append_assoc, take, drop, length, subst, add-one, append-nil}
+use Rattle.std.proofs.Common.{◌≡◌, ℕ, zero, suc, ◌+◌, ◌≤◌, List, [], ◌∷◌, ◌++◌, ap, sym, ◌∙◌, arith, append_assoc, take, drop, length, subst, add-one, append-nil, get_or, ◌<◌}
 use Rattle.std.proofs.Math.Seq.{take-append_seam, drop-append_seam}
 use Rattle.std.proofs.lemmas.List.Elements.{All-take, All-drop}
 use Rattle.std.proofs.lemmas.List.Sums.{sum_by-append}
+use Rattle.std.proofs.lemmas.Option.{same_Some, slice_get-get_or}
 use Rattle.std.specs.Prelude.{All, slice_get, Some}
 use Rattle.ofit_num.specs.declared.row.Row.{Row}
 use Rattle.ofit_num.specs.Limits.{IsRowWithinLimits, AreWithinLimits, total_weight, all_rows}
 
-same_some : {X : Type 0} (x y : X) → Some x ≡ Some y → x ≡ y
-same_some x y e = cc
-
--- before the group at k, that group, and after it
 pub all_rows-split : (groups : List (List Row)) (k : ℕ) (rows : List Row) → slice_get groups k ≡ Some rows → all_rows groups ≡ all_rows (take k groups) ++ (rows ++ all_rows (drop (suc k) groups))
 all_rows-split [] k rows e = cc
-all_rows-split (xs ∷ groups) zero rows e = ap (λ (r : List Row). r ++ all_rows groups) (same_some xs rows e)
+all_rows-split (xs ∷ groups) zero rows e = ap (λ (r : List Row). r ++ all_rows groups) (same_Some xs rows e)
 all_rows-split (xs ∷ groups) (suc k) rows e = ap (λ (r : List Row). xs ++ r) (all_rows-split groups k rows e) ∙ sym (append_assoc xs (all_rows (take k groups)) (rows ++ all_rows (drop (suc k) groups)))
 
 pub all_rows-take_more : (groups : List (List Row)) (k : ℕ) (rows : List Row) → slice_get groups k ≡ Some rows → all_rows (take (suc k) groups) ≡ all_rows (take k groups) ++ rows
 all_rows-take_more [] k rows e = cc
-all_rows-take_more (xs ∷ groups) zero rows e = append-nil xs ∙ same_some xs rows e
+all_rows-take_more (xs ∷ groups) zero rows e = append-nil xs ∙ same_Some xs rows e
 all_rows-take_more (xs ∷ groups) (suc k) rows e = ap (λ (r : List Row). xs ++ r) (all_rows-take_more groups k rows e) ∙ sym (append_assoc xs (all_rows (take k groups)) rows)
 
-all_front : {X : Type 0} (P : X → Type 0) (xs ys : List X) → All P (xs ++ ys) → All P xs
+pub all_front : {X : Type 0} (P : X → Type 0) (xs ys : List X) → All P (xs ++ ys) → All P xs
 all_front P xs ys h = subst (All P) (take-append_seam xs ys) (All-take P (length xs) (xs ++ ys) h)
 
-all_back : {X : Type 0} (P : X → Type 0) (xs ys : List X) → All P (xs ++ ys) → All P ys
+pub all_back : {X : Type 0} (P : X → Type 0) (xs ys : List X) → All P (xs ++ ys) → All P ys
 all_back P xs ys h = subst (All P) (drop-append_seam xs ys) (All-drop P (length xs) (xs ++ ys) h)
 
 -- what is within the limits has its parts within them
@@ -48,3 +45,6 @@ weight_upto groups k rows e = omega (
 
 pub weight_more : (groups : List (List Row)) (k : ℕ) (rows : List Row) → slice_get groups k ≡ Some rows → total_weight (all_rows (take (k + 1) groups)) ≡ total_weight (all_rows (take k groups)) + total_weight rows
 weight_more groups k rows e = rw (add-one) (ap total_weight (all_rows-take_more groups k rows e) ∙ sum_by-append (λ (r : Row). r.weight) (all_rows (take k groups)) rows)
+
+pub group_at : (groups : List (List Row)) (k : ℕ) → k < length groups → (rows : List Row) × (slice_get groups k ≡ Some rows)
+group_at groups k l = (get_or groups k [], slice_get-get_or groups k [] l)

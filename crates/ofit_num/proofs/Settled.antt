@@ -15,7 +15,7 @@ use Rattle.ofit_num.specs.Law.{HasSupport}
 use Rattle.ofit_num.specs.Sets.{set_sum, IsClosedUp, IsClosedDown}
 use Rattle.ofit_num.specs.Settled.{IsSettled, IsLeastSettled, CanRise, CanFall}
 use Rattle.ofit_num.proofs.Order.{swap_ℤ, mul_zero_ℤ, zero_mul_ℤ, mul_pos, mul_strict, pow_above}
-use Rattle.ofit_num.proofs.Sums.{int_sum, int_sum-sub, sum_below-scale, sum_below-term, int_sum-add, int_sum-same, int_sum-mono, int_sum-scale, int_sum-pos}
+use Rattle.ofit_num.proofs.Sums.{int_sum, int_sum-sub, sum_below-scale, sum_below-term, int_sum-add, int_sum-same, int_sum-mono, int_sum-scale, int_sum-pos, int_sum-nonneg, int_sum-above}
 use Rattle.ofit_num.proofs.Layers.{layered}
 use Rattle.ofit_num.proofs.Certified.{rise, low, high, factor, before, after, Holds, inside, ends_ordered, falls, climbs}
 
@@ -23,16 +23,6 @@ use Rattle.ofit_num.proofs.Certified.{rise, low, high, factor, before, after, Ho
 pub none_above : (f : ℕ → ℤ) (n : ℕ) → ((k : ℕ) → k < n → f k ≤ℤ pos 0) → int_sum f n ≤ℤ pos 0
 none_above f zero h = omega (arith, ints)
 none_above f (suc n) h = omega (arith, ints, none_above f n (λ k l. h k (omega arith)), h n (omega arith))
-
-none_below : (f : ℕ → ℤ) (n : ℕ) → ((k : ℕ) → k < n → pos 0 ≤ℤ f k) → pos 0 ≤ℤ int_sum f n
-none_below f zero h = omega (arith, ints)
-none_below f (suc n) h = omega (arith, ints, none_below f n (λ k l. h k (omega arith)), h n (omega arith))
-
--- terms at least 0, of which the first is above 0
-some_above : (f : ℕ → ℤ) (n : ℕ) → ((k : ℕ) → k < n → pos 0 ≤ℤ f k) → 0 < n → pos 0 <ℤ f 0 → pos 0 <ℤ int_sum f n
-some_above f zero h l p = absurd (omega arith)
-some_above f (suc zero) h l p = omega (arith, ints)
-some_above f (suc (suc n)) h l p = omega (arith, ints, some_above f (suc n) (λ k b. h k (omega arith)) (omega arith) p, h (suc n) (omega arith))
 
 pub up_mono : (y z : ℤ) → y ≤ℤ z → up y ≤ up z
 up_mono (pos a) (pos b) h = omega (arith, ints)
@@ -146,7 +136,7 @@ module _ (m : Meaning) (s : Problem) (t u : Trial) (law : HasSupport m s) (ot : 
       let y : ℕ → ℕ = λ g. down (rise t u g) in
       let top : ℕ = sum_below y s.count in
       let h : pos 0 ≤ℤ int_sum (λ k. set_sum (lowered_past t u k) (high m s t u law ot ou) s.count) top =
-      none_below _ top (λ k l. settled.lowered (lowered_past t u k) (closed_down s t u k ou) (can_fall k)) in
+      int_sum-nonneg _ top (λ k l. settled.lowered (lowered_past t u k) (closed_down s t u k ou) (can_fall k)) in
       omega (arith, ints, layered (high m s t u law ot ou) y s.count top (λ g l. sum_below-term y s.count g l), h)
 
   turned : (a b : ℤ) (f : ℕ) → pos f *ℤ (a -ℤ b) +ℤ (b -ℤ a) *ℤ pos f ≡ pos 0
@@ -179,7 +169,7 @@ module _ (m : Meaning) (s : Problem) (t u : Trial) (law : HasSupport m s) (ot : 
       let positive : 0 < y g = omega (arith, ints) in
       let here : y g ≤ top = sum_below-term y s.count g l in
       let h : pos 0 <ℤ int_sum (λ k. set_sum (lowered_past t u k) (high m s t u law ot ou) s.count) top =
-      some_above _ top (λ k l. settled.settled.lowered (lowered_past t u k) (closed_down s t u k ou) (can_fall k)) (omega arith)
+      int_sum-above _ top 0 (omega arith) (λ k l. settled.settled.lowered (lowered_past t u k) (closed_down s t u k ou) (can_fall k))
       (settled.loses (lowered_past t u 0) (closed_down s t u 0 ou) (can_fall 0) g l (lt_to 0 (y g) positive)) in
       omega (arith, ints, layered (high m s t u law ot ou) y s.count top (λ g l. sum_below-term y s.count g l), h)
 

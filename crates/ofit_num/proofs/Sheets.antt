@@ -21,20 +21,18 @@ equal_places g k e = grind (arith, nat_tests)
 other_places : (g k : ℕ) → g ≢ k → nat_eq g k ≡ false
 other_places g k d = grind (arith, nat_tests)
 
-here_value : (e : Entry) (es : List Entry) (g : ℕ) → e.place ≡ g → entry_value (e ∷ es) g ≡ Some e.value
+pub here_value : (e : Entry) (es : List Entry) (g : ℕ) → e.place ≡ g → entry_value (e ∷ es) g ≡ Some e.value
 here_value e es g h = ap (λ (b : Bool). cond b (Some e.value) (entry_value es g)) (equal_places e.place g h)
 
-later_value : (e : Entry) (es : List Entry) (g : ℕ) → e.place ≢ g → entry_value (e ∷ es) g ≡ entry_value es g
+pub later_value : (e : Entry) (es : List Entry) (g : ℕ) → e.place ≢ g → entry_value (e ∷ es) g ≡ entry_value es g
 later_value e es g h = ap (λ (b : Bool). cond b (Some e.value) (entry_value es g)) (other_places e.place g h)
 
--- places above g give it no value
-no_value : (es : List Entry) (g : ℕ) → All (λ e. g < e.place) es → entry_value es g ≡ None
+-- a place that no entry has gets none
+pub no_value : (es : List Entry) (g : ℕ) → All (λ e. e.place ≢ g) es → entry_value es g ≡ None
 no_value [] g h = refl
-no_value (e ∷ es) g h =
-    let above : g < e.place = All-head (λ e. g < e.place) e es h in
-    later_value e es g (λ same. omega arith) ∙ no_value es g (All-tail (λ e. g < e.place) e es h)
+no_value (e ∷ es) g h = later_value e es g (All-head (λ f. f.place ≢ g) e es h) ∙ no_value es g (All-tail (λ f. f.place ≢ g) e es h)
 
-not_some : (o : Option Fraction) → o ≡ None → IsSome o → ⊥
+pub not_some : (o : Option Fraction) → o ≡ None → IsSome o → ⊥
 not_some o e h = cc
 
 module _ (n : ℕ) where
@@ -43,7 +41,7 @@ module _ (n : ℕ) where
   first_place e es k at_least small later has = go (cases_order k e.place) where
     go : (k ≡ e.place) ⊎ ((k < e.place) ⊎ (e.place < k)) → e.place ≡ k
     go (inl h) = sym h
-    go (inr (inl h)) = absurd (not_some (entry_value (e ∷ es) k) (later_value e es k (λ same. omega arith) ∙ no_value es k (λ i d b. omega (arith, later i d b))) (has k (omega arith) (omega arith)))
+    go (inr (inl h)) = absurd (not_some (entry_value (e ∷ es) k) (later_value e es k (λ same. omega arith) ∙ no_value es k (λ i d b same. omega (arith, later i d b, same))) (has k (omega arith) (omega arith)))
     go (inr (inr h)) = absurd (omega arith)
 
   -- entries from place k on that rise and leave out no place are at k, k + 1 and so on

@@ -25,7 +25,7 @@ over_naturals cc cz cb z za q qa r ra d e1 e2 f1 f2 one two fall is_z lq lr lra 
 times_gap : (n u v : ℕ) → pos n *ℤ gap u v +ℤ pos (n * v) ≡ pos (n * u)
 times_gap n u v = simp (pos-gap, gap-mul, gap-add) (gap-same _ _ _ _ (omega arith))
 
-times : (n : ℕ) (x : ℤ) → pos n *ℤ x +ℤ pos (n * down x) ≡ pos (n * up x)
+pub times : (n : ℕ) (x : ℤ) → pos n *ℤ x +ℤ pos (n * down x) ≡ pos (n * up x)
 times n x = ap (λ (z : ℤ). pos n *ℤ z +ℤ pos (n * down x)) (is_gap x) ∙ times_gap n (up x) (down x)
 
 turn : (x : ℤ) (n : ℕ) → x *ℤ pos n ≡ pos n *ℤ x

@@ -13,7 +13,7 @@ use Rattle.ofit_num.specs.Fit.{Obeys, sum_below, trial_cost, Best, LeastBest}
 use Rattle.ofit_num.specs.Law.{least_at, greatest_at, HasSupport}
 use Rattle.ofit_num.proofs.Gap.{is_gap, gap-same, gap-add, gap-sub, gap-mul, pos-gap}
 use Rattle.ofit_num.proofs.Order.{natural, mul_pos, mul_strict, pow_above, zero_mul_ℤ}
-use Rattle.ofit_num.proofs.Strict.{middle}
+use Rattle.ofit_num.proofs.Strict.{middle, times}
 use Rattle.ofit_num.proofs.StrictSquares.{midway, Obeys-midway}
 
 -- each place's spans fall strictly
@@ -104,9 +104,6 @@ module _ (m : Meaning) (s : Problem) (support : HasSupport m s) (some : 0 < m.de
 -- the two halves of a step to either side
 grown_strict : (n x y : ℕ) → 0 < n → x < y → n * x < n * y
 grown_strict n x y l h = omega (arith, mul-le-mul_left n h)
-
-times : (n : ℕ) (x : ℤ) → pos n *ℤ x +ℤ pos (n * down x) ≡ pos (n * up x)
-times n x = ap (λ (z : ℤ). pos n *ℤ z +ℤ pos (n * down x)) (is_gap x) ∙ simp (pos-gap, gap-mul, gap-add) (gap-same _ _ _ _ (omega arith))
 
 from_lt : (a b n : ℕ) (x : ℤ) → pos a <ℤ (pos b +ℤ pos n *ℤ x) → a + n * down x < b + n * up x
 from_lt a b n x h = omega (arith, ints, times n x)

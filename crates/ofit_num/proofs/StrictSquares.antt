@@ -51,7 +51,7 @@ parallelogram a b = rw (is_gap a, is_gap b) (simp (gap-mul, gap-add, gap-sub) (g
 sizes : (a b : ℤ) → unsigned_abs (a +ℤ b) ^ 2 + unsigned_abs (a -ℤ b) ^ 2 ≡ 2 * unsigned_abs a ^ 2 + 2 * unsigned_abs b ^ 2
 sizes a b = omega (arith, ints, size_square (a +ℤ b), size_square (a -ℤ b), size_square a, size_square b, parallelogram a b)
 
-factor_one : (z : ℤ) → factor_of (record { above = 1; below = 1 }) z ≡ 1
+pub factor_one : (z : ℤ) → factor_of (record { above = 1; below = 1 }) z ≡ 1
 factor_one (pos zero) = refl
 factor_one (pos (suc n)) = refl
 factor_one (negsuc n) = refl

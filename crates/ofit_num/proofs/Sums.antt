@@ -1,7 +1,7 @@
 -- sums over places, of naturals and of integers
 use Rattle.std.proofs.Common.{◌≡◌, ℕ, zero, suc, ◌<◌, ◌≤◌, ◌*◌, ◌+◌, refl, sym, ap, ◌∙◌, arith, ◌≢◌, inl, inr}
 use Rattle.std.proofs.lemmas.Int.{ints}
-use Rattle.std.specs.Prelude.{ℤ, pos, ◌+ℤ◌, ◌-ℤ◌, ◌*ℤ◌, ◌≤ℤ◌}
+use Rattle.std.specs.Prelude.{ℤ, pos, ◌+ℤ◌, ◌-ℤ◌, ◌*ℤ◌, ◌≤ℤ◌, ◌<ℤ◌}
 use Rattle.ofit_num.specs.Fit.{sum_below}
 use Rattle.ofit_num.proofs.Order.{add_mono, distr_left, mul_zero_ℤ}
 use Rattle.std.proofs.lemmas.Bool.{cases_order}
@@ -49,6 +49,21 @@ int_sum-at f (suc n) k l e = elim (cases_order k n) [
 pub int_sum-sub : (f h : ℕ → ℤ) (n : ℕ) → int_sum (λ g. f g -ℤ h g) n ≡ int_sum f n -ℤ int_sum h n
 int_sum-sub f h zero = refl
 int_sum-sub f h (suc n) = omega (arith, ints, int_sum-sub f h n)
+
+-- terms at least 0, of which one may be above 0
+pub int_sum-nonneg : (f : ℕ → ℤ) (n : ℕ) → ((k : ℕ) → k < n → pos 0 ≤ℤ f k) → pos 0 ≤ℤ int_sum f n
+int_sum-nonneg f zero h = omega (arith, ints)
+int_sum-nonneg f (suc n) h = omega (arith, ints, int_sum-nonneg f n (λ k l. h k (omega arith)), h n (omega arith))
+
+pub int_sum-above : (f : ℕ → ℤ) (n k : ℕ) → k < n → ((k : ℕ) → k < n → pos 0 ≤ℤ f k) → pos 0 <ℤ f k → pos 0 <ℤ int_sum f n
+int_sum-above f zero k l h p = absurd (omega arith)
+int_sum-above f (suc n) k l h p = elim (cases_order k n) [
+  | inl e ↦ omega (arith, ints, int_sum-nonneg f n (λ k l. h k (omega arith)), ap f e)
+  | inr o ↦ elim o [
+    | inl b ↦ omega (arith, ints, int_sum-above f n k b (λ k l. h k (omega arith)) p, h n (omega arith))
+    | inr b ↦ absurd (omega arith)
+  ]
+]
 
 -- the same of naturals
 pub sum_below-scale : (f : ℕ → ℕ) (n k : ℕ) → sum_below f n * k ≡ sum_below (λ g. f g * k) n

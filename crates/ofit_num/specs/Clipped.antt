@@ -1,5 +1,5 @@
 -- Values cut off at a lower and an upper bound in whole units, each where there is one.
-use Rattle.std.specs.Prelude.{◌≡◌, ℕ, ◌<◌, cond, Option, Some, None, ℤ, pos, ◌*ℤ◌, ◌≤ℤ◌, int_lt, ⊤}
+use Rattle.std.specs.Prelude.{◌≡◌, ℕ, ◌<◌, cond, List, length, slice_get, Option, Some, None, ℤ, pos, ◌*ℤ◌, ◌≤ℤ◌, int_lt, ⊤}
 use Rattle.std.specs.Int.{int_max, int_min}
 use Rattle.ofit_num.specs.Problem.{Problem, Bounds, no_bounds}
 use Rattle.ofit_num.specs.Fraction.{Fraction}
@@ -36,6 +36,11 @@ clip_high (Some hi) f = cond (int_lt (hi *ℤ pos f.den) f.num) (whole hi) f
 -- the fraction, cut off at both bounds
 abbrev pub clip : Option ℤ → Option ℤ → Fraction → Fraction
 clip lo hi f = clip_high hi (clip_low lo f)
+
+-- each value, cut off at the bounds of its place
+pub record AreClipped (s : Problem) (before after : List Fraction) : Type 0 where
+  pub count : length after ≡ length before
+  pub each : (g : ℕ) (f : Fraction) → slice_get before g ≡ Some f → slice_get after g ≡ Some (clip (s.bounds g).lo (s.bounds g).hi f)
 
 -- the same of the value v/q, by its numerator
 abbrev pub raised_to : Option ℤ → ℕ → ℤ → ℤ

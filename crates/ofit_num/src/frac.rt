@@ -3,14 +3,9 @@ ghost use Rattle.std.specs.Int.RustNames.{unsigned_abs};
 ghost use Rattle.ofit_num.specs.Reduced.{signed_as};
 
 use crate::divisor::divisor_of;
+use crate::limits::{MOST_DEN, MOST_NUM};
 use std::cmp::Ordering;
 use std::marker::Model;
-
-/// The greatest absolute value of a numerator.
-const MOST_NUM: u128 = 1_000_000_000_000_000_000_000;
-
-/// The greatest denominator.
-const MOST_DEN: u128 = 1_000_000_000_000;
 
 /// A fraction in lowest terms, whose numerator is at most 10^21 in absolute value and whose
 /// denominator is from 1 to 10^12.

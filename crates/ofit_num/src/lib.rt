@@ -7,6 +7,7 @@ mod divisor;
 mod frac;
 mod groups;
 mod laws;
+mod limits;
 mod row;
 mod tally;
 mod terms;
@@ -21,6 +22,10 @@ pub use groups::Groups;
 pub use laws::{
     best_is_settled, least_best_values_are_unique, signed_texts_are_canonical,
     whole_texts_are_canonical,
+};
+pub use limits::{
+    LONGEST_FILE, LONGEST_NAME, MOST_AMOUNT, MOST_DEN, MOST_GROUPS, MOST_NUM, MOST_PAIRS,
+    MOST_ROWS, MOST_UNITS, MOST_WEIGHT,
 };
 pub use row::Row;
 pub use tally::Tally;

@@ -14,12 +14,7 @@ use Rattle.ofit_num.proofs.Blocks.{set_sum-equal}
 use Rattle.ofit_num.proofs.Sums.{int_sum, int_sum-at}
 use Rattle.ofit_cut.specs.Sets.{set_sum as node_sum, weight_at}
 use Rattle.ofit_partition.specs.Piece.{holds}
-
-pub AllPairs-tail : {X : Type 0} (R : X → X → Type 0) (x : X) (xs : List X) → AllPairs R (x ∷ xs) → AllPairs R xs
-AllPairs-tail R x xs h = λ i j d l k. h (suc i) (suc j) d (omega arith) (omega arith)
-
-AllPairs-head : {X : Type 0} (R : X → X → Type 0) (x : X) (xs : List X) → AllPairs R (x ∷ xs) → All (R x) xs
-AllPairs-head R x xs h = λ k d l. h 0 (suc k) d (omega arith) (omega arith)
+use Rattle.ofit_num.proofs.Sheets.{AllPairs-head, AllPairs-tail}
 
 -- a place that the list holds, by its position
 pub position_of : (places : List ℕ) (g : ℕ) → holds places g ≡ true → (i : ℕ) × (i < length places) × (slice_index places i ≡ g)

@@ -15,7 +15,7 @@ use Rattle.ofit_num.specs.Fraction.{Fraction}
 use Rattle.ofit_num.specs.Law.{least_at, greatest_at}
 use Rattle.ofit_num.specs.Limits.{IsRowWithinLimits, total_weight, all_rows}
 use Rattle.ofit_num.specs.Sets.{set_sum}
-use Rattle.ofit_num.proofs.RowLists.{all_rows-take_more}
+use Rattle.ofit_num.proofs.RowLists.{all_rows-take_more, group_at}
 use Rattle.ofit_num.proofs.Lists.{All-slice_get}
 use Rattle.ofit_loss.specs.Rows.{AreFittable, IsPlain, special_count}
 use Rattle.ofit_loss.specs.Laws.{HasLossLaws}
@@ -25,11 +25,7 @@ use Rattle.ofit_cut.specs.Sets.{total_size}
 use Rattle.ofit_partition.specs.Piece.{holds, rows_of, partition_problem}
 use Rattle.ofit_partition.specs.Cut.{span_sizes, IsPooledValue}
 use Rattle.ofit_partition.proofs.Places.{place_sum, place_sum-holds}
-
-group_at : (gs : RowLists) (k : ℕ) → k < length gs → (rows : List Row) × (slice_get gs k ≡ Some rows)
-group_at [] k l = absurd (omega arith)
-group_at (r ∷ gs) zero l = (r, refl)
-group_at (r ∷ gs) (suc k) l = group_at gs k (omega arith)
+use Rattle.ofit_num.proofs.Order.{size_add}
 
 -- what adds over rows is over a set of groups at most what it is over all
 set_bound : (F : List Row → ℕ) → ((xs ys : List Row) → F (xs ++ ys) ≡ F xs + F ys) → (groups : RowLists) (a : ℕ → Bool) (n : ℕ) → n ≤ length groups
@@ -98,9 +94,6 @@ rows_some groups (p ∷ places) plain below some = omega (
   some_rows (rows_of groups p) (plain_at groups p plain (All-head (λ g. g < length groups) p places below)),
 )
 
-added : (a b : ℤ) → unsigned_abs (a +ℤ b) ≤ unsigned_abs a + unsigned_abs b
-added a b = omega (arith, ints)
-
 module _ (m : Meaning) (strict : Bool) (laws : HasLossLaws m strict) where
   -- the ends of rows' span are at most the sizes of the rows' balances
   end_sizes : (c : Fraction) → 0 < c.den → (rows : List Row) → AreFittable rows → (unsigned_abs (m.least rows c.num c.den) ≤ balance_sizes m rows c) × (unsigned_abs (m.greatest rows c.num c.den) ≤ balance_sizes m rows c)
@@ -114,7 +107,7 @@ module _ (m : Meaning) (strict : Bool) (laws : HasLossLaws m strict) where
           sum,
           rest.0,
           ap unsigned_abs ((laws.sums (r ∷ []) rows fit).least c.num c.den l),
-          added (m.least (r ∷ []) c.num c.den) (m.least rows c.num c.den),
+          size_add (m.least (r ∷ []) c.num c.den) (m.least rows c.num c.den),
           le-max_left (unsigned_abs (m.least (r ∷ []) c.num c.den)) (unsigned_abs (m.greatest (r ∷ []) c.num c.den)),
         ),
         omega (
@@ -122,7 +115,7 @@ module _ (m : Meaning) (strict : Bool) (laws : HasLossLaws m strict) where
           sum,
           rest.1,
           ap unsigned_abs ((laws.sums (r ∷ []) rows fit).greatest c.num c.den l),
-          added (m.greatest (r ∷ []) c.num c.den) (m.greatest rows c.num c.den),
+          size_add (m.greatest (r ∷ []) c.num c.den) (m.greatest rows c.num c.den),
           le-max_right (unsigned_abs (m.least (r ∷ []) c.num c.den)) (unsigned_abs (m.greatest (r ∷ []) c.num c.den)),
         ),
       )

@@ -1,5 +1,5 @@
 -- values that are put at places, one by one
-use Rattle.std.proofs.Common.{◌≡◌, ℕ, zero, suc, ◌+◌, ◌<◌, refl, sym, ap, ◌∙◌, arith, Bool, true, false, ◌||◌, List, [], ◌∷◌, length, take, get_or, set}
+use Rattle.std.proofs.Common.{◌≡◌, ℕ, ◌+◌, ◌<◌, refl, sym, ap, ◌∙◌, arith, Bool, true, false, ◌||◌, List, length, take, get_or, set}
 use Rattle.std.proofs.lemmas.Bool.{eqb-true, eq-eqb, both_ways}
 use Rattle.std.proofs.lemmas.List.{length-set}
 use Rattle.std.proofs.lemmas.List.Folds.{list_any_more}
@@ -7,18 +7,7 @@ use Rattle.std.specs.Prelude.{Option, Some, slice_get, nat_eq}
 use Rattle.ofit_num.specs.Fraction.{Fraction}
 use Rattle.ofit_partition.specs.Piece.{holds}
 use Rattle.ofit_partition.specs.Work.{AreSettled}
-
-at_set : {X : Type 0} (xs : List X) (k : ℕ) (y : X) → k < length xs → slice_get (set xs k y) k ≡ Some y
-at_set [] k y l = absurd (omega arith)
-at_set (x ∷ xs) zero y l = refl
-at_set (x ∷ xs) (suc k) y l = at_set xs k y (omega arith)
-
-other_set : {X : Type 0} (xs : List X) (k i : ℕ) (y : X) → (i ≡ k → ⊥) → slice_get (set xs k y) i ≡ slice_get xs i
-other_set [] k i y away = refl
-other_set (x ∷ xs) zero zero y away = absurd (away refl)
-other_set (x ∷ xs) zero (suc i) y away = refl
-other_set (x ∷ xs) (suc k) zero y away = refl
-other_set (x ∷ xs) (suc k) (suc i) y away = other_set xs k i y (λ e. away (ap (λ (n : ℕ). suc n) e))
+use Rattle.ofit_num.proofs.Elements.{at_set, other_set}
 
 pub settle_more : (places : List ℕ) (i : ℕ) (value : Fraction) (before values : List (Option Fraction)) → i < length places → get_or places i 0 < length before → AreSettled (take i places) value before values
     → AreSettled (take (i + 1) places) value before (set values (get_or places i 0) (Some value))

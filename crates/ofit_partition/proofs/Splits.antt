@@ -1,6 +1,5 @@
 -- the two parts of a piece by a mark of its places
 use Rattle.std.proofs.Common.{◌≡◌, ℕ, zero, suc, ◌+◌, ◌<◌, refl, sym, ap, subst, ◌∙◌, arith, cond, Bool, true, false, ◌||◌, ◌&&◌, not, List, [], ◌∷◌, length, get_or}
-use Rattle.std.proofs.lemmas.Bool.{both_ways}
 use Rattle.std.proofs.lemmas.List.Elements.{All-filter}
 use Rattle.std.proofs.lemmas.List.Filters.{length-filter_both}
 use Rattle.std.proofs.lemmas.List.Kept.{AllPairs-filter}
@@ -14,18 +13,7 @@ use Rattle.ofit_partition.specs.declared.piece.Piece.{Piece}
 use Rattle.ofit_partition.specs.declared.piece.Parts.{Parts}
 use Rattle.ofit_partition.specs.Piece.{holds, IsPiece, AreParts}
 use Rattle.ofit_partition.proofs.Places.{holds-filter}
-
-Contains-cons : {X : Type 0} (y : X) (ys : List X) (x : X) → Contains ys x → Contains (y ∷ ys) x
-Contains-cons y ys x h = (suc h.0, omega (arith, h.1), h.2)
-
-pub Contains-filter : {X : Type 0} (keep : X → Bool) (xs : List X) (x : X) → Contains xs x → keep x ≡ true → Contains (filter keep xs) x
-Contains-filter keep [] x h u = absurd (omega (arith, h.1))
-Contains-filter {X} keep (y ∷ ys) x h u = go h.0 h.1 h.2 (keep y) refl (Contains-filter keep ys x) where
-  go : (k : ℕ) → k < length (y ∷ ys) → slice_index_or (y ∷ ys) k x ≡ x → (b : Bool) → keep y ≡ b → (Contains ys x → keep x ≡ true → Contains (filter keep ys) x) → Contains (cond b (y ∷ filter keep ys) (filter keep ys)) x
-  go zero l e true f later = (0, omega arith, e)
-  go zero l e false f later = absurd (both_ways (keep y) f (ap keep e ∙ u))
-  go (suc k) l e true f later = Contains-cons y (filter keep ys) x (later (k, omega arith, e) u)
-  go (suc k) l e false f later = later (k, omega arith, e) u
+use Rattle.ofit_num.proofs.Members.{Contains-filter}
 
 All-passes : {X : Type 0} (P : X → Type 0) (keep : X → Bool) (xs : List X) → All P xs → All (λ x. P x × (keep x ≡ true)) (filter keep xs)
 All-passes {X} P keep [] h = λ k d l. absurd (omega arith)

@@ -36,7 +36,8 @@ use Rattle.ofit_report.specs.Blocks.{block_order}
 use Rattle.ofit_report.specs.BlockMeans.{IsMean, IsWholeValue, IsMeanOrWhole}
 use Rattle.ofit_report.specs.Cost.{rows_among}
 use Rattle.ofit_report.proofs.Members.{member_sum, member_sum-has, member_sum-same}
-use Rattle.ofit_report.proofs.Places.{group_count, tight_within}
+use Rattle.ofit_study.proofs.Places.{group_count}
+use Rattle.ofit_report.proofs.Places.{tight_within}
 use Rattle.ofit_report.proofs.Tightness.{contains_filter, own_value, same_tight, connected_same}
 
 -- a fraction in lowest terms that is a whole number has the denominator 1

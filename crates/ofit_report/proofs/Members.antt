@@ -25,7 +25,7 @@ use Rattle.ofit_order.proofs.Increasing.{Contains-cons, Contains-head, increasin
 use Rattle.ofit_study.specs.Study.{Study, IsValid, names_of, groups_of, problem_stated, total_weight as study_weight}
 use Rattle.ofit_study.proofs.Stating.{rows_within, rows_weighed, groups_filled}
 use Rattle.ofit_report.specs.Cost.{rows_among}
-use Rattle.ofit_report.proofs.Places.{group_count}
+use Rattle.ofit_study.proofs.Places.{group_count}
 
 -- the sum over the members, one by one
 abbrev pub member_sum : (ℕ → ℤ) → List ℕ → ℤ

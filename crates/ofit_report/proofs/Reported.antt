@@ -6,8 +6,8 @@ use Rattle.ofit_num.specs.declared.row.Row.{Row}
 use Rattle.ofit_num.specs.Fraction.{Fraction}
 use Rattle.ofit_num.specs.Fit.{BestValues}
 use Rattle.ofit_num.specs.Fraction.{IsLowest}
-use Rattle.ofit_study.specs.declared.settings.LossKind.{LossKind}
-use Rattle.ofit_study.specs.declared.settings.LossKind.TheVariants.{Squares}
+use Rattle.ofit_study.specs.declared.loss.LossKind.{LossKind}
+use Rattle.ofit_study.specs.declared.loss.LossKind.TheVariants.{Squares}
 use Rattle.ofit_study.specs.Study.{Study, IsValid, names_of, groups_of, problem_stated, meaning_of}
 use Rattle.ofit_report.specs.Tight.{value_at}
 use Rattle.ofit_report.specs.Blocks.{IsBlockOf}

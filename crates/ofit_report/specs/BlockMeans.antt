@@ -4,7 +4,7 @@ use Rattle.ofit_num.specs.declared.row.Row.{Row}
 use Rattle.ofit_num.specs.Fraction.{Fraction, IsLowest}
 use Rattle.ofit_num.specs.Limits.{total_weight}
 use Rattle.ofit_order.specs.Component.{AreMembers}
-use Rattle.ofit_study.specs.declared.settings.LossKind.TheVariants.{Squares}
+use Rattle.ofit_study.specs.declared.loss.LossKind.TheVariants.{Squares}
 use Rattle.ofit_study.specs.Study.{Study}
 use Rattle.ofit_loss.specs.Squares.{weighted_sum}
 use Rattle.ofit_report.specs.Blocks.{block_order}

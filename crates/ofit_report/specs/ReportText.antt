@@ -1,5 +1,5 @@
 -- The text of a report: header, size, a record for each group, a record for each block, and the end, of eight fields each.
-use Rattle.std.specs.Prelude.{◌≡◌, ◌+◌, ◌<◌, ◌^◌, ℕ, ℤ, List, [], ◌∷◌, ◌++◌, length, slice_index_or, Option, Some, None, codes, decimal, pos, ◌+ℤ◌, ◌*ℤ◌, ◌≤ℤ◌, ◌<ℤ◌}
+use Rattle.std.specs.Prelude.{◌≡◌, ◌+◌, ◌<◌, ◌^◌, ℕ, ℤ, List, [], ◌∷◌, ◌++◌, length, slice_index_or, codes, decimal, pos, ◌+ℤ◌, ◌*ℤ◌, ◌≤ℤ◌, ◌<ℤ◌}
 use Rattle.std.specs.Fmt.{signed_decimal}
 use Rattle.ofit_num.specs.declared.row.Row.{Row}
 use Rattle.ofit_num.specs.DecimalText.{IsFixed}
@@ -8,24 +8,12 @@ use Rattle.ofit_num.specs.Limits.{total_weight}
 use Rattle.ofit_order.specs.Component.{IsComponentCount, AreMembers}
 use Rattle.ofit_records.specs.Written.{records_text}
 use Rattle.ofit_study.specs.declared.settings.Settings.{Settings}
-use Rattle.ofit_study.specs.declared.settings.LossKind.{LossKind}
-use Rattle.ofit_study.specs.declared.settings.LossKind.TheVariants.{Squares, Median}
-use Rattle.ofit_study.specs.Study.{Study, names_of, problem_stated, meaning_of}
+use Rattle.ofit_study.specs.FieldText.{bound_text, dash}
+use Rattle.ofit_study.specs.Loss.{loss_text, meaning_of}
+use Rattle.ofit_study.specs.Study.{Study, names_of, problem_stated}
 use Rattle.ofit_report.specs.Tight.{value_at}
 use Rattle.ofit_report.specs.Blocks.{order_of, block_order, IsBlockOf}
 use Rattle.ofit_report.specs.Cost.{rows_among, block_value, IsCost}
-
-abbrev pub loss_text : LossKind → List ℕ
-loss_text Squares = codes "squares"
-loss_text Median = codes "median"
-
-abbrev pub bound_text : Option ℤ → List ℕ
-bound_text None = codes "none"
-bound_text (Some units) = signed_decimal units
-
--- a field without meaning
-abbrev pub dash : List ℕ
-dash = codes "-"
 
 abbrev pub header_fields : Settings → List (List ℕ)
 header_fields x = codes "ofit-report" ∷ codes "1" ∷ loss_text x.loss ∷ decimal x.places ∷ bound_text x.lo ∷ bound_text x.hi ∷ dash ∷ dash ∷ []

@@ -1,39 +1,11 @@
 ghost use Rattle.std.specs.Prelude.{◌≡◌, ◌<◌, ◌+◌, ℕ, IfOk, length};
-ghost use Rattle.ofit_study.specs.Study.{names_of, places_of};
-ghost use Rattle.ofit_report.specs.Tight.{is_tight, tight_among};
+ghost use Rattle.ofit_study.specs.Study.{names_of};
 ghost use Rattle.ofit_report.specs.Blocks.{block_order, IsBlockOf, IsSameOrder, AreBlocks};
 
 use ofit_num::Frac;
 use ofit_order::{Order, check_order};
-use ofit_study::Study;
+use ofit_study::{Study, tight_pairs};
 use std::alloc::{AllocError, Global};
-
-/// Whether both ends of the pair have one value.
-fn is_tight(values: &[Frac], pair: (u32, u32)) -> bool
-    requires low { pair.0 < length values.now }
-    requires high { pair.1 < length values.now }
-    ensures { result ≡ is_tight values.now pair }
-{
-    let low = &values[pair.0 as usize];
-    let high = &values[pair.1 as usize];
-    low.compare(high).is_eq()
-}
-
-/// The study's pairs whose groups have one value, in their order.
-fn tight_pairs(alloc: Global, study: &Study, values: &[Frac]) -> Result<Vec<(u32, u32)>, AllocError>
-    requires { length values.now ≡ length (names_of study.now) }
-    ensures { IfOk result (λ pairs. pairs.items ≡ tight_among values.now (places_of study.now)) }
-{
-    let _groups = study.group_count();
-    let mut pairs = Vec::new(alloc);
-    for index in 0..study.pair_count() {
-        let pair = study.pair_at(index);
-        if is_tight(values, pair) {
-            pairs.push(pair)?;
-        }
-    }
-    Ok(pairs)
-}
 
 /// The order of the groups by their pairs of equal values, whose components are the blocks.
 pub(crate) fn order_of_blocks(

@@ -1,8 +1,8 @@
-ghost use Rattle.std.specs.Prelude.{◌≡◌, ◌≤◌, ◌<◌, ◌+◌, ◌*◌, ◌^◌, ℤ, length, pos, ◌≤ℤ◌, ◌+ℤ◌, ◌-ℤ◌, ◌*ℤ◌, unsigned_abs};
+ghost use Rattle.std.specs.Prelude.{◌≡◌, ◌≤◌, ◌<◌, ◌+◌, ◌*◌, ◌^◌, ℤ, MatchBool, length, pos, ◌≤ℤ◌, ◌+ℤ◌, ◌-ℤ◌, ◌*ℤ◌, unsigned_abs};
 ghost use Rattle.ofit_num.specs.Limits.{AreWithinLimits};
 ghost use Rattle.ofit_num.specs.Loss.{residual, squares, median};
 ghost use Rattle.ofit_num.specs.Reduced.{Reduces};
-ghost use Rattle.ofit_study.specs.declared.settings.LossKind.TheVariants.{Squares};
+ghost use Rattle.ofit_study.specs.declared.loss.LossKind.TheVariants.{Squares};
 ghost use Rattle.ofit_study.specs.Study.{meaning_of};
 ghost use Rattle.ofit_report.specs.BlockMeans.{IsMeanOrWhole};
 ghost use Rattle.ofit_report.specs.Cost.{IsCost, distance};
@@ -74,6 +74,16 @@ fn cost_at_whole(all: Sums, value: i128) -> (i128, i128)
     lowest(plus(minus(minus(all.squares, cross), cross), last), 1)
 }
 
+/// Whether a value is the weighted mean of rows with these sums.
+fn is_mean(all: Sums, value: &Frac) -> bool
+    requires most_weight { all.weight ≤ 10 ^ 10 }
+    requires most_sum { unsigned_abs all.sum ≤ 10 ^ 19 }
+    ensures mean { MatchBool result (value.now.num *ℤ pos all.weight ≡ all.sum *ℤ pos value.now.den) (value.now.num *ℤ pos all.weight ≡ all.sum *ℤ pos value.now.den → ⊥) }
+    ensures den { 0 < value.now.den }
+{
+    product(value.num(), i128::from(all.weight)) == product(all.sum, value.den())
+}
+
 /// What rows cost under squares at their weighted mean, or at a whole value.
 fn squared_cost(rows: &[Row], value: &Frac) -> (i128, i128)
     requires limits { AreWithinLimits rows.now }
@@ -83,11 +93,10 @@ fn squared_cost(rows: &[Row], value: &Frac) -> (i128, i128)
     ensures den { pos 1 ≤ℤ result.1 }
 {
     let all = sums_of(rows);
-    let num = value.num();
-    if product(num, i128::from(all.weight)) == product(all.sum, value.den()) {
+    if is_mean(all, value) {
         cost_at_mean(all)
     } else {
-        cost_at_whole(all, num)
+        cost_at_whole(all, value.num())
     }
 }
 

@@ -1,32 +1,12 @@
 ghost use Rattle.std.specs.Prelude.{◌≡◌, ◌++◌, OnOk, decimal};
 ghost use Rattle.std.specs.Fmt.{signed_decimal};
 ghost use Rattle.ofit_records.specs.Written.{record_text};
-ghost use Rattle.ofit_report.specs.ReportText.{loss_text, bound_text, header_fields, size_fields};
+ghost use Rattle.ofit_report.specs.ReportText.{header_fields, size_fields};
 
 use itoa::Buffer;
 use ofit_records::RecordWriter;
-use ofit_study::{LossKind, Settings, Study};
+use ofit_study::{Settings, Study, bound_name};
 use std::alloc::AllocError;
-
-/// The name of a loss.
-fn loss_name(loss: LossKind) -> &'static [u8]
-    ensures { result.now ≡ loss_text loss }
-{
-    match loss {
-        LossKind::Squares => b"squares",
-        LossKind::Median => b"median",
-    }
-}
-
-/// The text of a bound.
-fn bound_name(bound: Option<i64>, buffer: &mut Buffer) -> &[u8]
-    ensures { result.now ≡ bound_text bound }
-{
-    match bound {
-        None => b"none",
-        Some(units) => buffer.format(units).as_bytes(),
-    }
-}
 
 /// Writes record 1: the loss, the places and the bounds.
 pub(crate) fn write_header(writer: &mut RecordWriter, settings: &Settings) -> Result<(), AllocError>
@@ -38,7 +18,7 @@ pub(crate) fn write_header(writer: &mut RecordWriter, settings: &Settings) -> Re
     let fields: [&[u8]; 8] = [
         b"ofit-report",
         b"1",
-        loss_name(settings.loss),
+        settings.loss.name(),
         places.format(settings.places).as_bytes(),
         bound_name(settings.lo, &mut lo),
         bound_name(settings.hi, &mut hi),

@@ -32,7 +32,7 @@ fn report_group(
     requires place { place < length (names_of study.now) }
     ensures { OnOk result ((fields : List (List ℕ)) × IsGroupRecord study.now values.now place fields × (writer.new ≡ writer.old ++ record_text fields)) }
 {
-    let _groups = study.group_count();
+    study.keeps_limits();
     let value = &values[place as usize];
     let decimal = rounded(alloc, value, study.settings().places)?;
     write_group(
@@ -80,7 +80,7 @@ fn report_block(
     ensures { OnOk result ((fields : List (List ℕ)) × IsBlockRecord study.now values.now block fields × (writer.new ≡ writer.old ++ record_text fields)) }
 {
     let _blocks = order.component_count();
-    let _groups = study.group_count();
+    study.keeps_limits();
     let members = order.members(block);
     let rows = rows_of(alloc, study, members)?;
     let value = &values[members[0] as usize];
@@ -160,6 +160,6 @@ pub fn write_report(alloc: Global, study: &Study, values: &[Frac]) -> Result<Vec
     requires { BestValues (meaning_of study.now.settings.loss) (problem_stated study.now) values.now }
     ensures { IfOk result (λ text. ReportText study.now values.now text.items) }
 {
-    let _groups = study.group_count();
+    study.keeps_limits();
     report_text(alloc, study, values)
 }

@@ -9,7 +9,7 @@ use Rattle.ofit_num.proofs.Coprime.{same_lowest}
 use Rattle.ofit_sheet.specs.declared.size.Size as size
 use Rattle.ofit_sheet.specs.declared.fault.RecordFault.{RecordFault}
 use Rattle.ofit_sheet.specs.Kept.{IsSizeInLimits, most_rows, most_weight, most_amount}
-use Rattle.ofit_sheet.specs.SheetText.{dash}
+use Rattle.ofit_study.specs.FieldText.{dash}
 use Rattle.ofit_sheet.specs.Reading.{IsReading}
 use Rattle.ofit_sheet.specs.Spelling.{SpellsSize, SpellsFraction, SpellsValue, SpellsFlow}
 use Rattle.ofit_sheet.proofs.Readings.{fault_moved}

@@ -17,7 +17,7 @@ four_fields (x ∷ y ∷ z ∷ []) a b c d l e f g h = absurd (omega (arith, l))
 four_fields (x ∷ y ∷ z ∷ w ∷ []) a b c d l e f g h = cc
 four_fields (x ∷ y ∷ z ∷ w ∷ v ∷ rest) a b c d l e f g h = absurd (omega (arith, l))
 
-no_places : (text : List ℕ) (fault : RecordFault) (n : ℕ) → IsReading {X = ℕ} (λ n. IsWhole text n) (λ n. n ≤ 6) (Err fault) → IsWhole text n → n ≤ 6 → ⊥
+pub no_places : (text : List ℕ) (fault : RecordFault) (n : ℕ) → IsReading {X = ℕ} (λ n. IsWhole text n) (λ n. n ≤ 6) (Err fault) → IsWhole text n → n ≤ 6 → ⊥
 no_places text Bad n h w l = h n w
 no_places text TooLarge n h w l = h.2 (omega (arith, l, IsWhole-number text n h.0 w h.1))
 

@@ -11,3 +11,16 @@ pub mod ItemReadings
 pub mod Reached
 pub mod ReadBack
 pub mod OneReading
+pub mod Lengths
+pub mod OneFrame
+pub mod OnePeaked
+pub mod WrittenPeaked
+pub mod Shapes
+pub mod PeakedFaults
+pub mod PeakedParts
+pub mod PeakedWhole
+pub mod PeakedAmounts
+pub mod PeakedSides
+pub mod PeakedBack
+pub mod Umbrella
+pub mod Splits

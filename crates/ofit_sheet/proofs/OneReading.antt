@@ -6,9 +6,10 @@ use Rattle.std.proofs.lemmas.Option.{slice_get_within, get_or_from_slice_get}
 use Rattle.ofit_num.specs.NumberText.{IsWhole, IsSigned}
 use Rattle.ofit_num.specs.Sheet as num
 use Rattle.ofit_num.proofs.Numerals.{IsWhole-number, IsSigned-number}
+use Rattle.ofit_num.proofs.Partings.{at_one, first_shorter, head_same, parted, second_shorter, tail_same}
 use Rattle.ofit_study.specs.declared.settings.Settings.{Settings}
-use Rattle.ofit_study.specs.declared.settings.LossKind.{LossKind}
-use Rattle.ofit_study.specs.declared.settings.LossKind.TheVariants.{Squares, Median}
+use Rattle.ofit_study.specs.Loss.{loss_text}
+use Rattle.ofit_study.proofs.LossTexts.{one_name}
 use Rattle.ofit_sheet.specs.declared.header.Header.{Header}
 use Rattle.ofit_sheet.specs.declared.fields.Kind.{Kind}
 use Rattle.ofit_sheet.specs.declared.fields.Kind.TheVariants as kind
@@ -16,7 +17,6 @@ use Rattle.ofit_sheet.specs.declared.item.Item.{Item}
 use Rattle.ofit_sheet.specs.declared.item.Item.TheVariants as it
 use Rattle.ofit_sheet.specs.declared.fault.SheetFault.{SheetFault}
 use Rattle.ofit_sheet.specs.declared.fault.SheetFault.TheVariants as fault
-use Rattle.ofit_sheet.specs.SheetText.{loss_text}
 use Rattle.ofit_sheet.specs.Spelling.{version_of, IsHeader, IsBoundText, kind_in, kind_name, FieldsSpell, Spells}
 use Rattle.ofit_sheet.specs.Rules.{has_end, IsGood, AreGood, IsAfterEnd, IsBad, IsTooLarge}
 use Rattle.ofit_sheet.specs.SheetRead.{ReadsTo, HasBadHeader, StopsAt, SheetRead, sheet_spelled}
@@ -31,12 +31,6 @@ version_one true true e = refl
 version_one true false e = absurd (omega (arith, differ (codes "2") (codes "1") e))
 version_one false true e = absurd (omega (arith, differ (codes "1") (codes "2") e))
 version_one false false e = refl
-
-loss_one : (a b : LossKind) → loss_text a ≡ loss_text b → a ≡ b
-loss_one Squares Squares e = refl
-loss_one Squares Median e = absurd (omega (arith, differ (codes "squares") (codes "median") e))
-loss_one Median Squares e = absurd (omega (arith, differ (codes "median") (codes "squares") e))
-loss_one Median Median e = refl
 
 kind_one : (a b : Kind) → kind_name a ≡ kind_name b → a ≡ b
 kind_one kind.Bounds kind.Bounds e = refl
@@ -78,12 +72,12 @@ bound_one text (Some y) (Some z) h k = ap Some (IsSigned-number text y z h k)
 header_one : (fields : List (List ℕ)) (a b : Header) → IsHeader fields a → IsHeader fields b → a ≡ b
 header_one fields a b h k =
     let sized : a.sized ≡ b.sized = version_one a.sized b.sized (let e = h.spells in let f = k.spells in cc) in
-    let loss : a.loss ≡ b.loss = loss_one a.loss b.loss (let e = h.spells in let f = k.spells in cc) in
+    let loss : a.loss ≡ b.loss = one_name (loss_text a.loss) a.loss b.loss refl (let e = h.spells in let f = k.spells in cc) in
     let texts : k.places_text ≡ h.places_text = let e = h.spells in let f = k.spells in cc in
     let places : a.places ≡ b.places = IsWhole-number h.places_text a.places b.places h.places (subst (λ (t : List ℕ). IsWhole t b.places) texts k.places) in
     λ i. record { sized = sized i; loss = loss i; places = places i }
 
-place_one : (names : List (List ℕ)) (name : List ℕ) (p q : ℕ) → AllPairs (λ a b. a ≢ b) names → slice_get names p ≡ Some name → slice_get names q ≡ Some name → p ≡ q
+pub place_one : (names : List (List ℕ)) (name : List ℕ) (p q : ℕ) → AllPairs (λ a b. a ≢ b) names → slice_get names p ≡ Some name → slice_get names q ≡ Some name → p ≡ q
 place_one names name p q apart e f =
     elim (cases_lt p q) [
       | inl less ↦ absurd (apart p q name less (slice_get_within names q name f) (get_or_from_slice_get names p name name e ∙ sym (get_or_from_slice_get names q name name f)))
@@ -190,31 +184,6 @@ module _ (names : List (List ℕ)) (apart : AllPairs (λ a b. a ≢ b) names) wh
 
     bad_large : (items : List Item) (fields : List (List ℕ)) → IsBad names sized items fields → IsTooLarge names sized items fields → ⊥
     bad_large items fields f g = f.breaks g.item g.spells g.allowed
-
--- how two ways to part a list lie
-data Parting (xs zs : List (List (List ℕ))) (x z : List (List ℕ)) : Type 0 where
-  at_one : xs ≡ zs → x ≡ z → Parting xs zs x z
-  first_shorter : (t : List (List (List ℕ))) → zs ≡ xs ++ x ∷ t → Parting xs zs x z
-  second_shorter : (t : List (List (List ℕ))) → xs ≡ zs ++ z ∷ t → Parting xs zs x z
-
-head_same : (x z : List (List ℕ)) (ys ws : List (List (List ℕ))) → x ∷ ys ≡ z ∷ ws → x ≡ z
-head_same x z ys ws e = cc
-
-tail_same : (x z : List (List ℕ)) (ys ws : List (List (List ℕ))) → x ∷ ys ≡ z ∷ ws → ys ≡ ws
-tail_same x z ys ws e = cc
-
-longer : (y : List (List ℕ)) (xs zs : List (List (List ℕ))) (x z : List (List ℕ)) → Parting xs zs x z → Parting (y ∷ xs) (y ∷ zs) x z
-longer y xs zs x z (at_one e f) = at_one (ap (λ (t : List (List (List ℕ))). y ∷ t) e) f
-longer y xs zs x z (first_shorter t e) = first_shorter t (ap (λ (u : List (List (List ℕ))). y ∷ u) e)
-longer y xs zs x z (second_shorter t e) = second_shorter t (ap (λ (u : List (List (List ℕ))). y ∷ u) e)
-
-parted : (xs zs ys ws : List (List (List ℕ))) (x z : List (List ℕ)) → xs ++ x ∷ ys ≡ zs ++ z ∷ ws → Parting xs zs x z
-parted [] [] ys ws x z e = at_one refl (head_same x z ys ws e)
-parted [] (w ∷ zs) ys ws x z e = first_shorter zs (ap (λ (t : List (List ℕ)). t ∷ zs) (sym (head_same x w ys (zs ++ z ∷ ws) e)))
-parted (y ∷ xs) [] ys ws x z e = second_shorter xs (ap (λ (t : List (List ℕ)). t ∷ xs) (head_same y z (xs ++ x ∷ ys) ws e))
-parted (y ∷ xs) (w ∷ zs) ys ws x z e =
-    subst (λ (t : List (List ℕ)). Parting (y ∷ xs) (t ∷ zs) x z) (head_same y w (xs ++ x ∷ ys) (zs ++ z ∷ ws) e)
-    (longer y xs zs x z (parted xs zs ys ws x z (tail_same y w (xs ++ x ∷ ys) (zs ++ z ∷ ws) e)))
 
 module _ (names : List (List ℕ)) (apart : AllPairs (λ a b. a ≢ b) names) (rows : List (List (List ℕ))) where
   -- what two readings of all records have in common

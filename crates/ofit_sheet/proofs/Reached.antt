@@ -7,6 +7,7 @@ use Rattle.std.proofs.lemmas.List.Elements.{All-nil, All-cons, All-head, All-wea
 use Rattle.std.proofs.lemmas.Option.{slice_get_within}
 use Rattle.ofit_num.specs.Fraction.{Fraction}
 use Rattle.ofit_num.specs.Sheet as num
+use Rattle.ofit_study.specs.Loss.{IsListed}
 use Rattle.ofit_study.specs.Settings.{InLimits, IsBoundInLimits, InOrder}
 use Rattle.ofit_sheet.specs.declared.size.Size as size
 use Rattle.ofit_sheet.specs.declared.draft.Draft.{Draft}
@@ -82,9 +83,9 @@ module _ (names : List (List ℕ)) (sized : Bool) where
   first_so P [] h = tt
   first_so P (x ∷ xs) h = All-head P x xs h
 
-  settings_so : (head : Header) (b : Option (Option ℤ × Option ℤ)) → head.places ≤ 6 → IfSome b (λ b. IsBoundInLimits b.0 × IsBoundInLimits b.1 × InOrder b.0 b.1) → InLimits (settings_of head b)
-  settings_so head None l h = record { places = l; lo = tt; hi = tt; order = tt }
-  settings_so head (Some b) l h = record { places = l; lo = h.0; hi = h.1; order = h.2 }
+  settings_so : (head : Header) (b : Option (Option ℤ × Option ℤ)) → head.places ≤ 6 → IsListed head.loss → IfSome b (λ b. IsBoundInLimits b.0 × IsBoundInLimits b.1 × InOrder b.0 b.1) → InLimits (settings_of head b)
+  settings_so head None l k h = record { loss = k; places = l; lo = tt; hi = tt; order = tt }
+  settings_so head (Some b) l k h = record { loss = k; places = l; lo = h.0; hi = h.1; order = h.2 }
 
   shorter : {X : Type 0} (f : Item → Option X) (items : List Item) → length (filter_map f items) ≤ length items
   shorter f [] = omega arith
@@ -102,8 +103,8 @@ module _ (names : List (List ℕ)) (sized : Bool) where
     values_so : All (λ e. (e.0 < length names) × IsFractionInLimits e.1) (values_of items)
     values_so = good_told value_in (λ e. (e.0 < length names) × IsFractionInLimits e.1) value_told [] rows items good
 
-    pub limits_so : (head : Header) → head.places ≤ 6 → InLimits (settings_of head (first_bounds items))
-    limits_so head l = settings_so head (first_bounds items) l
+    pub limits_so : (head : Header) → head.places ≤ 6 → IsListed head.loss → InLimits (settings_of head (first_bounds items))
+    limits_so head l k = settings_so head (first_bounds items) l k
         (first_so (λ (b : Option ℤ × Option ℤ). IsBoundInLimits b.0 × IsBoundInLimits b.1 × InOrder b.0 b.1) (filter_map bounds_in items) (good_told bounds_in (λ b. IsBoundInLimits b.0 × IsBoundInLimits b.1 × InOrder b.0 b.1) bounds_told [] rows items good))
 
     pub few_values : (n : ℕ) → length rows < n → length (values_of items) < n
@@ -112,11 +113,11 @@ module _ (names : List (List ℕ)) (sized : Bool) where
     pub few_flows : (n : ℕ) → length rows < n → length (flows_of items) < n
     few_flows n l = omega (arith, shorter flow_in items, good-length names sized [] rows items good, l)
 
-    pub sheet_fits : (head : Header) → head.places ≤ 6 → length rows < 2 ^ 32 → num.FitsCount (length names) (sheet_spelled head items)
-    sheet_fits head l short =
+    pub sheet_fits : (head : Header) → head.places ≤ 6 → IsListed head.loss → length rows < 2 ^ 32 → num.FitsCount (length names) (sheet_spelled head items)
+    sheet_fits head l k short =
         fits_if (length names) (settings_of head (first_bounds items)) (first_size items) (values_of items) (flows_of items)
         (record {
-          in_limits = limits_so head l;
+          in_limits = limits_so head l k;
           parts = parts_so;
           fractions = All-weaker (λ (e : ℕ × Fraction). (e.0 < length names) × IsFractionInLimits e.1) (λ (e : ℕ × Fraction). IsFractionInLimits e.1) (λ e h. h.1) (values_of items) values_so;
           few_values = few_values (2 ^ 32) short;

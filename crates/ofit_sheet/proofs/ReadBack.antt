@@ -14,6 +14,8 @@ use Rattle.ofit_records.specs.Records.{records_of, without_marks}
 use Rattle.ofit_records.specs.Written.{records_text}
 use Rattle.ofit_records.proofs.WrittenText.{read_back_all, no_mark}
 use Rattle.ofit_study.specs.declared.settings.Settings.{Settings}
+use Rattle.ofit_study.specs.FieldText.{bound_text}
+use Rattle.ofit_study.specs.Loss.{loss_text}
 use Rattle.ofit_study.specs.Settings.{InLimits, IsBoundInLimits}
 use Rattle.ofit_sheet.specs.declared.size.Size as size
 use Rattle.ofit_sheet.specs.declared.header.Header.{Header}
@@ -21,7 +23,7 @@ use Rattle.ofit_sheet.specs.declared.item.Item.{Item}
 use Rattle.ofit_sheet.specs.declared.item.Item.TheVariants as it
 use Rattle.ofit_sheet.specs.Kept.{IsKept, IsSizeInLimits, IsAmountInLimits, IsFractionInLimits}
 use Rattle.ofit_sheet.specs.Parts.{size_of, entry_of, flow_of}
-use Rattle.ofit_sheet.specs.SheetText.{loss_text, bound_text, version_text, header_fields, bounds_fields, size_fields, size_records, name_at, value_fields, flow_fields, end_fields, sheet_records, sheet_text}
+use Rattle.ofit_sheet.specs.SheetText.{version_text, header_fields, bounds_fields, size_fields, size_records, name_at, value_fields, flow_fields, end_fields, sheet_records, sheet_text}
 use Rattle.ofit_sheet.specs.Spelling.{version_of, IsHeader, IsBoundText}
 use Rattle.ofit_sheet.specs.Rules.{value_in, flow_in, is_end, values_of, flows_of, has_end, leading, IsGood, AreGood}
 use Rattle.ofit_sheet.specs.SheetRead.{size_in, first_size, sheet_spelled, HasSheet, SheetRead}
@@ -290,6 +292,7 @@ header_good x kept = record {
   spells = ap (λ (t : List ℕ). codes "ofit-sheet" ∷ t ∷ loss_text x.settings.loss ∷ decimal x.settings.places ∷ []) (version_same x.size);
   places = IsWhole-decimal x.settings.places (omega (arith, kept.settings.places));
   most = kept.settings.places;
+  listed = kept.settings.loss;
 }
 
 ended : (before : List Item) → has_end (before ++ it.End ∷ []) ≡ true

@@ -1,22 +1,12 @@
 -- What a sheet keeps.
-use Rattle.std.specs.Prelude.{◌<◌, ◌≤◌, ◌^◌, ◌*◌, ℕ, ℤ, pos, ◌≤ℤ◌, List, length, Option, IfSome, All, AllPairs}
+use Rattle.std.specs.Prelude.{◌<◌, ◌≤◌, ◌^◌, ℕ, ℤ, pos, ◌≤ℤ◌, List, length, Option, IfSome, All, AllPairs}
 use Rattle.ofit_num.specs.Fraction.{Fraction, IsLowest}
 use Rattle.ofit_num.specs.Reduced as frac
 use Rattle.ofit_num.specs.Sheet as num
 use Rattle.ofit_study.specs.declared.settings.Settings.{Settings}
 use Rattle.ofit_study.specs.Settings.{InLimits}
 use Rattle.ofit_sheet.specs.declared.size.Size.{Size}
-
--- the greatest amount of a flow
-abbrev pub most_amount : ℕ
-most_amount = 2 * 10 ^ 33
-
--- the most rows that a sheet may name, and the greatest total weight
-abbrev pub most_rows : ℕ
-most_rows = 100000
-
-abbrev pub most_weight : ℕ
-most_weight = 10 ^ 10
+pub use Rattle.ofit_num.specs.declared.limits.TheConstants.{MOST_AMOUNT as most_amount, MOST_ROWS as most_rows, MOST_WEIGHT as most_weight}
 
 pub record IsSizeInLimits (rows weight : ℕ) : Type 0 where
   pub few : rows ≤ most_rows

@@ -7,3 +7,11 @@ pub mod Reading
 pub mod SheetRead
 pub mod Told
 pub mod Steps
+pub mod Frame
+pub mod Peaked
+pub mod PeakedText
+pub mod Slots
+pub mod PeakedRead
+pub mod PeakedSteps
+pub mod Unimodal
+pub mod PeakVerdict

@@ -1,29 +1,17 @@
 -- The records of a printed sheet.
-use Rattle.std.specs.Prelude.{ℕ, ℤ, List, [], ◌∷◌, ◌++◌, map, Option, Some, None, codes, decimal, slice_index_or}
+use Rattle.std.specs.Prelude.{ℕ, List, [], ◌∷◌, ◌++◌, map, Option, Some, None, codes, decimal, slice_index_or}
 use Rattle.std.specs.Fmt.{signed_decimal}
 use Rattle.ofit_num.specs.Flow.{Flow}
 use Rattle.ofit_num.specs.Sheet as num
 use Rattle.ofit_records.specs.Written.{records_text}
 use Rattle.ofit_study.specs.declared.settings.Settings.{Settings}
-use Rattle.ofit_study.specs.declared.settings.LossKind.{LossKind}
-use Rattle.ofit_study.specs.declared.settings.LossKind.TheVariants.{Squares, Median}
-
-abbrev pub loss_text : LossKind → List ℕ
-loss_text Squares = codes "squares"
-loss_text Median = codes "median"
-
-abbrev pub bound_text : Option ℤ → List ℕ
-bound_text None = codes "none"
-bound_text (Some units) = signed_decimal units
+use Rattle.ofit_study.specs.FieldText.{bound_text, dash}
+use Rattle.ofit_study.specs.Loss.{loss_text}
 
 -- version 2 for a sheet with a size, version 1 for one without
 abbrev pub version_text : Option num.Size → List ℕ
 version_text None = codes "1"
 version_text (Some z) = codes "2"
-
--- a field without meaning
-abbrev pub dash : List ℕ
-dash = codes "-"
 
 abbrev pub header_fields : num.Sheet Settings → List (List ℕ)
 header_fields x = codes "ofit-sheet" ∷ version_text x.size ∷ loss_text x.settings.loss ∷ decimal x.settings.places ∷ []

@@ -7,7 +7,8 @@ use Rattle.ofit_sheet.specs.declared.item.Item.TheVariants.{Bounds, Size, Value,
 use Rattle.ofit_sheet.specs.declared.fields.Kind.{Kind}
 use Rattle.ofit_sheet.specs.declared.fields.Kind.TheVariants as kind
 use Rattle.ofit_sheet.specs.declared.header.Header.{Header}
-use Rattle.ofit_sheet.specs.SheetText.{loss_text, dash}
+use Rattle.ofit_study.specs.FieldText.{dash}
+use Rattle.ofit_study.specs.Loss.{IsListed, loss_text}
 
 -- version 2 has a size record, version 1 has none
 abbrev pub version_of : Bool → List ℕ
@@ -19,6 +20,7 @@ pub record IsHeader (fields : List (List ℕ)) (head : Header) : Type 0 where
   pub spells : fields ≡ codes "ofit-sheet" ∷ version_of head.sized ∷ loss_text head.loss ∷ places_text ∷ []
   pub places : IsWhole places_text head.places
   pub most : head.places ≤ 6
+  pub listed : IsListed head.loss
 
 abbrev pub IsBoundText : List ℕ → Option ℤ → Type 0
 IsBoundText text None = text ≡ codes "none"

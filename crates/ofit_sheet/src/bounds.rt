@@ -5,9 +5,7 @@ ghost use Rattle.ofit_sheet.specs.Spelling.{IsBoundText, SpellsBounds};
 
 use crate::fault::RecordFault;
 use crate::numeral::{both, is, is_at_most, read_number};
-
-/// The greatest absolute value of a bound, in units.
-const MOST_UNITS: u128 = 1_000_000_000;
+use ofit_num::MOST_UNITS;
 
 /// The bound of a text.
 fn read_bound(text: &[u8]) -> Result<Option<i64>, RecordFault>
@@ -16,7 +14,7 @@ fn read_bound(text: &[u8]) -> Result<Option<i64>, RecordFault>
     if is(text, b"none") {
         return Ok(None);
     }
-    match read_number(text, MOST_UNITS) {
+    match read_number(text, MOST_UNITS as u128) {
         Ok(units) => Ok(Some(units as i64)),
         Err(fault) => Err(fault),
     }

@@ -7,10 +7,8 @@ ghost use Rattle.ofit_sheet.specs.Spelling.{SpellsFlow};
 use crate::fault::RecordFault;
 use crate::numeral::read_positive;
 use crate::place::place_from;
+use ofit_num::MOST_AMOUNT;
 use ofit_study::Study;
-
-/// The greatest amount of a flow.
-const MOST_AMOUNT: u128 = 2_000_000_000_000_000_000_000_000_000_000_000;
 
 /// The flow of the three fields behind `flow`.
 pub(crate) fn read_flow(

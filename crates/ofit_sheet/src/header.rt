@@ -1,8 +1,6 @@
 ghost use Rattle.std.specs.Prelude.{◌≡◌, ℕ, List, Bool, MatchOption};
 ghost use Rattle.csv.specs.Records.{fields_of};
-ghost use Rattle.ofit_study.specs.declared.settings.LossKind.{LossKind as TheLoss};
 ghost use Rattle.ofit_sheet.specs.declared.header.Header.{Header as TheHeader};
-ghost use Rattle.ofit_sheet.specs.SheetText.{loss_text};
 ghost use Rattle.ofit_sheet.specs.Spelling.{version_of, IsHeader};
 
 use crate::fields::four_of;
@@ -34,19 +32,6 @@ fn is_sized(text: &[u8]) -> Option<bool>
     }
 }
 
-/// The loss of this name.
-fn loss_of(text: &[u8]) -> Option<LossKind>
-    ensures { MatchOption result ((loss : TheLoss) → text.now ≡ loss_text loss → ⊥) (λ loss. text.now ≡ loss_text loss) }
-{
-    if is(text, b"squares") {
-        Some(LossKind::Squares)
-    } else if is(text, b"median") {
-        Some(LossKind::Median)
-    } else {
-        None
-    }
-}
-
 /// What a record says that is a header.
 pub(crate) fn header_of(row: &ByteRecord) -> Option<Header>
     ensures { MatchOption result ((head : TheHeader) → IsHeader (fields_of row.now) head → ⊥) (λ head. IsHeader (fields_of row.now) head) }
@@ -60,7 +45,7 @@ pub(crate) fn header_of(row: &ByteRecord) -> Option<Header>
     let Some(sized) = is_sized(fields.first) else {
         return None;
     };
-    let Some(loss) = loss_of(fields.second) else {
+    let Some(loss) = LossKind::named(fields.second) else {
         return None;
     };
     match read_count(fields.third, 6) {

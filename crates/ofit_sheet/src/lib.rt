@@ -15,6 +15,7 @@ mod item;
 mod items;
 mod laws;
 mod numeral;
+mod peaked;
 mod place;
 mod read;
 mod sheet;
@@ -24,6 +25,10 @@ mod write;
 
 pub use fault::SheetFault;
 pub use laws::{sheets_are_read_back, sheets_are_read_in_one_way};
+pub use peaked::{
+    Peaked, Side, peaked_sheets_are_read_back, peaked_sheets_are_read_in_one_way, read_peaked,
+    unimodal_trials_obey_the_umbrella, write_peaked,
+};
 pub use read::read_sheet;
 pub use sheet::Sheet;
 pub use size::Size;

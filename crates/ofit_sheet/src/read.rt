@@ -1,5 +1,6 @@
 ghost use Rattle.std.specs.Prelude.{◌≡◌, ◌↔◌, ◌∷◌, ◌+◌, ◌≤◌, ◌<◌, ◌^◌, [], ℕ, List, IfOk, length};
 ghost use Rattle.csv.specs.Records.{fields_of};
+ghost use Rattle.ofit_num.specs.declared.limits.TheConstants.{LONGEST_FILE};
 ghost use Rattle.ofit_num.specs.Sheet.{FitsCount};
 ghost use Rattle.ofit_records.specs.Records.{records_of};
 ghost use Rattle.ofit_study.specs.Study.{names_of};
@@ -138,7 +139,7 @@ fn read_records(
 /// The sheet that bytes of either version spell, for the study that names the groups, or their first
 /// fault. Expected time linear in the bytes, and memory linear in the sheet.
 pub fn read_sheet(alloc: Global, bytes: &[u8], study: &Study) -> Result<Sheet, SheetFault>
-    requires { length bytes.now ≤ 33554432 }
+    requires { length bytes.now ≤ LONGEST_FILE }
     ensures read { SheetRead (names_of study.now) (records_of bytes.now) result }
     ensures fits { IfOk result (FitsCount (length (names_of study.now))) }
 {

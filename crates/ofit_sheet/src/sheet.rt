@@ -5,12 +5,9 @@ ghost use Rattle.ofit_sheet.specs.Kept.{IsKept, IsFractionInLimits, ArePartsOfSh
 ghost use Rattle.ofit_sheet.specs.Parts.{size_of, entry_of, flow_of, sheet_of};
 
 use crate::size::{Size, is_size_in_limits};
-use ofit_num::Frac;
+use ofit_num::{Frac, MOST_AMOUNT};
 use ofit_study::Settings;
 use std::marker::Model;
-
-/// The greatest amount of a flow.
-const MOST_AMOUNT: i128 = 2_000_000_000_000_000_000_000_000_000_000_000;
 
 /// A printed sheet: settings, a size or none, values (place, fraction) with rising places, and flows
 /// (low place, high place, amount).
@@ -68,7 +65,7 @@ fn are_amounts(flows: &[(u32, u32, i128)]) -> bool
 {
     flows
         .iter()
-        .all(|flow| 1 <= flow.2 && flow.2 <= MOST_AMOUNT)
+        .all(|flow| 1 <= flow.2 && flow.2 <= MOST_AMOUNT as i128)
 }
 
 /// Whether a sheet is made of these parts.

@@ -5,12 +5,7 @@ ghost use Rattle.ofit_sheet.specs.Spelling.{SpellsSize};
 
 use crate::fault::RecordFault;
 use crate::numeral::{both, is, read_count};
-
-/// The most rows that a sheet may name.
-pub(crate) const MOST_ROWS: u32 = 100_000;
-
-/// The greatest total weight that a sheet may name.
-pub(crate) const MOST_WEIGHT: u64 = 10_000_000_000;
+use ofit_num::{MOST_ROWS, MOST_WEIGHT};
 
 /// How much data a sheet was made from.
 #[derive(Clone, Copy, Debug, PartialEq, Eq)]

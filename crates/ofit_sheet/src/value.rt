@@ -9,14 +9,8 @@ ghost use Rattle.ofit_sheet.specs.Spelling.{SpellsFraction, SpellsValue};
 use crate::fault::RecordFault;
 use crate::numeral::{both, read_number, read_positive};
 use crate::place::place_from;
-use ofit_num::Frac;
+use ofit_num::{Frac, MOST_DEN, MOST_NUM};
 use ofit_study::Study;
-
-/// The greatest absolute value of a numerator.
-const MOST_NUM: u128 = 1_000_000_000_000_000_000_000;
-
-/// The greatest denominator.
-const MOST_DEN: u128 = 1_000_000_000_000;
 
 /// The fraction of these numbers, where they are in lowest terms.
 fn fraction_of(num: i128, den: u128) -> Option<Frac>

@@ -4,35 +4,15 @@ ghost use Rattle.ofit_num.specs.Sheet.{FitsCount};
 ghost use Rattle.ofit_records.specs.Written.{record_text, records_text};
 ghost use Rattle.ofit_study.specs.Study.{names_of};
 ghost use Rattle.ofit_sheet.specs.Parts.{size_of, entry_of, flow_of};
-ghost use Rattle.ofit_sheet.specs.SheetText.{loss_text, bound_text, header_fields, bounds_fields, size_fields, size_records, value_fields, flow_fields, sheet_text};
+ghost use Rattle.ofit_sheet.specs.SheetText.{header_fields, bounds_fields, size_fields, size_records, value_fields, flow_fields, sheet_text};
 
 use crate::sheet::Sheet;
 use crate::size::Size;
 use itoa::Buffer;
 use ofit_num::Frac;
 use ofit_records::RecordWriter;
-use ofit_study::{LossKind, Settings, Study};
+use ofit_study::{Settings, Study, bound_name};
 use std::alloc::{AllocError, Global};
-
-/// The name of a loss.
-fn loss_name(loss: LossKind) -> &'static [u8]
-    ensures { result.now ≡ loss_text loss }
-{
-    match loss {
-        LossKind::Squares => b"squares",
-        LossKind::Median => b"median",
-    }
-}
-
-/// The text of a bound.
-fn bound_name(bound: Option<i64>, buffer: &mut Buffer) -> &[u8]
-    ensures { result.now ≡ bound_text bound }
-{
-    match bound {
-        None => b"none",
-        Some(units) => buffer.format(units).as_bytes(),
-    }
-}
 
 /// Writes record 1.
 fn write_header(writer: &mut RecordWriter, sheet: &Sheet) -> Result<(), AllocError>
@@ -47,7 +27,7 @@ fn write_header(writer: &mut RecordWriter, sheet: &Sheet) -> Result<(), AllocErr
     let fields: [&[u8]; 4] = [
         b"ofit-sheet",
         version,
-        loss_name(settings.loss),
+        settings.loss.name(),
         places.format(settings.places).as_bytes(),
     ];
     writer.add_record(&fields)

@@ -1,13 +1,13 @@
 -- The parts of a study with other pairs.
-use Rattle.std.proofs.Common.{◌≡◌, ◌≢◌, ℕ, ◌<◌, ◌≤◌, List, length, sym, ap, subst, arith}
+use Rattle.std.proofs.Common.{◌≡◌, ◌≢◌, ℕ, ◌<◌, ◌≤◌, List, [], length, refl, sym, subst, arith}
 use Rattle.std.proofs.lemmas.List.{length-map}
 use Rattle.std.proofs.lemmas.List.Elements.{All-map, All-weaker, Contains-get_or}
 use Rattle.std.specs.Prelude.{map, All, AllPairs, Contains, ◌↔◌}
 use Rattle.ofit_num.specs.declared.row.Row.{Row}
 use Rattle.ofit_study.specs.declared.entry.Entry.{Entry}
 use Rattle.ofit_study.specs.declared.settings.Settings.{Settings}
-use Rattle.ofit_study.specs.Study.{Study, HasPairs, ComesBefore, group_names, most_pairs}
-use Rattle.ofit_study.specs.Kept.{AreKept, made_of, observed, named, name_at}
+use Rattle.ofit_study.specs.Study.{Study, HasPairs, ComesBefore, group_names, names_of, most_pairs}
+use Rattle.ofit_study.specs.Kept.{AreKept, observed, named, name_at}
 use Rattle.ofit_study.proofs.GroupNames.{group_names-distinct}
 use Rattle.ofit_study.proofs.Pushing.{places_are}
 
@@ -44,14 +44,21 @@ module _ (settings : Settings) (names : List (List ℕ)) (entries : List Entry) 
       weight_is = kept.weight_is;
       placed = kept.placed;
       ends = ends;
-      numbered = kept.numbered;
     }
 
-    pub has_pairs : (s : Study) → made_of settings names entries pairs ≡ s → (given : List (ℕ × ℕ)) → ((e : ℕ × ℕ) → Contains given e ↔ Contains places e) → HasPairs s given (made_of settings names entries places)
-    has_pairs s is given same = record {
-      settings = ap (λ (t : Study). t.settings) is;
-      rows = ap (λ (t : Study). t.rows) is;
-      in_order = in_order;
-      only = subst (λ (t : List (ℕ × ℕ)). (e : ℕ × ℕ) → Contains given e ↔ Contains t e) (places_are names (map (observed names) entries) kept.names_are places ends) same;
-      known = known;
-    }
+-- a study with other pairs of its own places
+module _ (s : Study) (places : List (ℕ × ℕ)) (ends : All (λ e. (e.0 < length (names_of s)) × (e.1 < length (names_of s))) places) where
+  known_names : All (λ e. Contains (names_of s) e.0 × Contains (names_of s) e.1) (map (named (names_of s)) places)
+  known_names =
+      All-map (λ e. Contains (names_of s) e.0 × Contains (names_of s) e.1) (named (names_of s)) places
+      (All-weaker (λ e. (e.0 < length (names_of s)) × (e.1 < length (names_of s))) (λ e. Contains (names_of s) (name_at (names_of s) e.0) × Contains (names_of s) (name_at (names_of s) e.1))
+      (λ e h. (Contains-get_or (names_of s) e.0 [] h.0, Contains-get_or (names_of s) e.1 [] h.1)) places ends)
+
+  pub given_pairs : (given : List (ℕ × ℕ)) (t : Study) → AllPairs ComesBefore (map (named (names_of s)) places) → ((e : ℕ × ℕ) → Contains given e ↔ Contains places e)
+      → t ≡ record s { pairs = map (named (names_of s)) places } → HasPairs s given t
+  given_pairs given t in_order same is = subst (HasPairs s given) (sym is) (record {
+    others = refl;
+    in_order = in_order;
+    only = subst (λ (l : List (ℕ × ℕ)). (e : ℕ × ℕ) → Contains given e ↔ Contains l e) (places_are (names_of s) s.rows refl places ends) same;
+    known = known_names;
+  })

@@ -1,8 +1,7 @@
 -- A row more after the others.
-use Rattle.std.proofs.Common.{◌≡◌, ◌≢◌, ℕ, zero, suc, ◌+◌, ◌-◌, ◌<◌, ◌≤◌, ◌^◌, ◌⊎◌, inl, inr, List, [], ◌∷◌, ◌++◌, refl, sym, ap, ap₂, ◌∙◌, subst, arith, length, Bool, true, false, cond, set, get_or, append-nil}
-use Rattle.std.proofs.lemmas.Bool.{cases_order}
-use Rattle.std.proofs.lemmas.List.{map-append, map_push, length-map, length_push, get_or-map, get_or_append_left, get_or_push}
-use Rattle.std.proofs.lemmas.List.Elements.{All-nil, All-head, All-tail, All-push, All-weaker, All-contains, filter-append, Contains-append_left}
+use Rattle.std.proofs.Common.{◌≡◌, ◌≢◌, ℕ, zero, suc, ◌+◌, ◌<◌, List, [], ◌∷◌, ◌++◌, refl, sym, ap, ap₂, ◌∙◌, subst, arith, length, Bool, true, false, cond, set, get_or, append-nil}
+use Rattle.std.proofs.lemmas.List.{map-append, map_push, length_push, get_or-map, get_or_append_left, get_or_push}
+use Rattle.std.proofs.lemmas.List.Elements.{All-head, All-tail, All-push, All-weaker, All-contains, filter-append}
 use Rattle.std.proofs.lemmas.List.Sums.{sum_by_push, position_or_len_is}
 use Rattle.std.proofs.lemmas.Option.{slice_get_within, slice_get-get_or, get_or_from_slice_get, same_Some}
 use Rattle.std.specs.Prelude.{All, AllPairs, Contains, filter, map, slice_get, Some}
@@ -10,10 +9,10 @@ use Rattle.ofit_num.proofs.Sheets.{AllPairs-head, AllPairs-tail}
 use Rattle.ofit_num.specs.declared.row.Row.{Row}
 use Rattle.ofit_study.specs.declared.entry.Entry.{Entry}
 use Rattle.ofit_study.specs.declared.settings.Settings.{Settings}
-use Rattle.ofit_study.specs.Study.{Observation, Study, IsObservation, IsValid, IsFreeNumber, GainsRow, group_names, is_same_name, place_among, plain_row, rows_named, total_weight, most_rows, most_groups}
-use Rattle.ofit_study.specs.Kept.{AreKept, AreNumbered, made_of, observed, named, name_at}
+use Rattle.ofit_study.specs.Study.{Observation, IsValid, group_names, is_same_name, place_among, plain_row, rows_named, total_weight}
+use Rattle.ofit_study.specs.Kept.{AreKept, made_of, observed, named, name_at}
 use Rattle.ofit_study.specs.Adding.{observation, with_row}
-use Rattle.ofit_study.proofs.GroupNames.{is_same, is_other, group_names-push, group_names-push_known, group_names-push_new, group_names-distinct, group_names-each}
+use Rattle.ofit_study.proofs.GroupNames.{is_same, is_other, group_names-push_known, group_names-push_new, group_names-distinct, group_names-each}
 
 -- lists by a function
 
@@ -35,7 +34,7 @@ map-changed {X} {Y} f g (y ∷ xs) (suc p) x d e h =
     ap₂ (λ (z : Y) (zs : List Y). z ∷ zs) (h y (All-contains (λ z. y ≢ z) xs x (AllPairs-head (λ a b. a ≢ b) y xs d) (slice_get-Contains xs p x e)))
     (map-changed f g xs p x (AllPairs-tail (λ a b. a ≢ b) y xs d) e h)
 
-filter-none : {X : Type 0} (p : X → Bool) (xs : List X) → All (λ x. p x ≡ false) xs → filter p xs ≡ []
+pub filter-none : {X : Type 0} (p : X → Bool) (xs : List X) → All (λ x. p x ≡ false) xs → filter p xs ≡ []
 filter-none p [] h = refl
 filter-none p (x ∷ xs) h =
     ap (λ (t : Bool). cond t (x ∷ filter p xs) (filter p xs)) (All-head (λ y. p y ≡ false) x xs h) ∙ filter-none p xs (All-tail (λ y. p y ≡ false) x xs h)
@@ -83,79 +82,6 @@ groups-push_new rows r h =
     (map-agree (rows_named (rows ++ r ∷ [])) (rows_named rows) (group_names rows) (All-weaker (λ known. known ≢ r.group) (λ known. rows_named (rows ++ r ∷ []) known ≡ rows_named rows known) (rows_named-other rows r) (group_names rows) h))
     (rows_named-own rows r ∙ ap (λ (t : List Row). t ++ plain_row r ∷ []) (rows_named-none rows r.group h))
 
--- numbers from 1 on
-
-number_at : (rows : List Observation) → AreNumbered rows → (k : ℕ) (d : Observation) → k < length rows → (get_or rows k d).number ≡ k + 1
-number_at rows h k d l = h k (get_or rows k d) (slice_get-get_or rows k d l)
-
-numbered-push : (rows : List Observation) (r : Observation) → AreNumbered rows → r.number ≡ length rows + 1 → AreNumbered (rows ++ r ∷ [])
-numbered-push rows r h n k o e = go (cases_order k (length rows)) where
-  inside : k < length rows + 1
-  inside = omega (arith, slice_get_within (rows ++ r ∷ []) k o e, length_push rows r)
-
-  is : get_or (rows ++ r ∷ []) k o ≡ o
-  is = get_or_from_slice_get (rows ++ r ∷ []) k o o e
-
-  go : (k ≡ length rows) ⊎ ((k < length rows) ⊎ (length rows < k)) → o.number ≡ k + 1
-  go (inl same) = ap (λ (t : Observation). t.number) (sym is ∙ get_or_push rows r o k (sym same)) ∙ omega (arith, n)
-  go (inr (inl l)) = ap (λ (t : Observation). t.number) (sym is ∙ get_or_append_left rows (r ∷ []) o k l) ∙ number_at rows h k o l
-  go (inr (inr l)) = absurd (omega (arith, inside))
-
-numbered-rising : (rows : List Observation) → AreNumbered rows → AllPairs (λ a b. a.number < b.number) rows
-numbered-rising rows h i j d l k = omega (arith, number_at rows h i d (omega arith), number_at rows h j d k)
-
-numbered-below : (rows : List Observation) → AreNumbered rows → All (λ r. r.number < length rows + 1) rows
-numbered-below rows h k d l = omega (arith, number_at rows h k d l)
-
-number_listed : (rows : List Observation) → AreNumbered rows → (j k : ℕ) → k ≡ j + 1 → j < length rows → get_or (map (λ r. r.number) rows) j k ≡ k
-number_listed [] h j k e l = absurd (omega arith)
-number_listed (o ∷ rows) h j k e l = get_or-map (λ r. r.number) (o ∷ rows) j o k l ∙ number_at (o ∷ rows) h j o l ∙ sym e
-
-numbered-free : (rows : List Observation) → AreNumbered rows → IsFreeNumber rows (length rows + 1)
-numbered-free rows h = record {
-  from_one = omega arith;
-  free = λ k d l e. omega (arith, number_at rows h k d l);
-  least = λ k l b. taken k l b;
-} where
-  taken : (k : ℕ) → 1 ≤ k → k < length rows + 1 → Contains (map (λ r. r.number) rows) k
-  taken k l b = (k - 1, omega (arith, length-map rows (λ r. r.number)), number_listed rows h (k - 1) k (omega arith) (omega arith))
-
--- a study with a row more
-
-names-kept : (rows : List Observation) (r : Observation) (name : List ℕ) → Contains (group_names rows) name → Contains (group_names (rows ++ r ∷ [])) name
-names-kept rows r name h = subst (λ (t : List (List ℕ)). Contains t name) (sym (group_names-push rows r)) (go _) where
-  go : (t : Bool) → Contains (cond t (group_names rows) (group_names rows ++ r.group ∷ [])) name
-  go true = h
-  go false = Contains-append_left (group_names rows) (r.group ∷ []) name h
-
-valid-push : (s : Study) (r : Observation) → IsValid s → AreNumbered s.rows → r.number ≡ length s.rows + 1 → IsObservation r → length s.rows < most_rows → total_weight s.rows + r.weight ≤ 10 ^ 10 → length (group_names (s.rows ++ r ∷ [])) ≤ most_groups
-    → IsValid (with_row s r)
-valid-push s r v h n o few light groups = record {
-  settings = v.settings;
-  each = All-push IsObservation s.rows r v.each o;
-  rising = numbered-rising (s.rows ++ r ∷ []) (numbered-push s.rows r h n);
-  together = omega (arith, sum_by_push (λ (q : Observation). q.weight) s.rows r);
-  rows = omega (arith, length_push s.rows r);
-  groups = groups;
-  known = All-weaker (λ e. Contains (group_names s.rows) e.0 × Contains (group_names s.rows) e.1) (λ e. Contains (group_names (s.rows ++ r ∷ [])) e.0 × Contains (group_names (s.rows ++ r ∷ [])) e.1) (λ e k. (names-kept s.rows r e.0 k.0, names-kept s.rows r e.1 k.1)) s.pairs v.known;
-  in_order = v.in_order;
-  pairs = v.pairs;
-}
-
-pub gains-push : (s : Study) (r : Observation) → AreNumbered s.rows → r.number ≡ length s.rows + 1 → GainsRow s r.group r.value r.weight (with_row s r)
-gains-push s r h n = record {
-  settings = refl;
-  pairs = refl;
-  number = r.number;
-  free = subst (IsFreeNumber s.rows) (sym n) (numbered-free s.rows h);
-  lower = s.rows;
-  higher = [];
-  parted = sym (append-nil s.rows);
-  below = subst (λ (k : ℕ). All (λ q. q.number < k) s.rows) (sym n) (numbered-below s.rows h);
-  above = All-nil (λ q. r.number < q.number);
-  rows = refl;
-}
-
 -- the parts of a study with a row more
 
 pub name_at-get : (names : List (List ℕ)) (p : ℕ) (name : List ℕ) → slice_get names p ≡ Some name → name_at names p ≡ name
@@ -199,7 +125,7 @@ module _ (settings : Settings) (names : List (List ℕ)) (entries : List Entry) 
   rows = map (observed names) entries
 
   -- with the same names
-  module _ (e : Entry) (place : e.place < length names) (n : e.row.number ≡ length entries + 1) (o : IsObservation (observed names e)) (few : length entries < most_rows) (light : weight + e.row.weight ≤ 10 ^ 10) where
+  module _ (e : Entry) (place : e.place < length names) (valid : IsValid (with_row (made_of settings names entries pairs) (observed names e))) where
     more : map (observed names) (entries ++ e ∷ []) ≡ rows ++ observed names e ∷ []
     more = map_push (observed names) entries e
 
@@ -217,8 +143,7 @@ module _ (settings : Settings) (names : List (List ℕ)) (entries : List Entry) 
 
     pub kept-push_known : AreKept settings names (entries ++ e ∷ []) (set groups e.place (get_or groups e.place [] ++ e.row ∷ [])) pairs (weight + e.row.weight)
     kept-push_known = record {
-      valid = subst IsValid (sym made-push_known)
-          (valid-push (made_of settings names entries pairs) (observed names e) kept.valid kept.numbered (omega (arith, length-map entries (observed names))) o (omega (arith, length-map entries (observed names))) (omega (arith, kept.weight_is)) (omega (arith, ap length same_names, kept.valid.groups)));
+      valid = subst IsValid (sym made-push_known) valid;
       names_are = names_are;
       groups_are =
           ap (λ (t : List (List Row)). set t e.place (get_or t e.place [] ++ e.row ∷ [])) kept.groups_are
@@ -228,11 +153,10 @@ module _ (settings : Settings) (names : List (List ℕ)) (entries : List Entry) 
       weight_is = omega (arith, kept.weight_is, ap total_weight more, sum_by_push (λ (q : Observation). q.weight) rows (observed names e));
       placed = All-push (λ f. f.place < length names) entries e kept.placed place;
       ends = kept.ends;
-      numbered = subst AreNumbered (sym more) (numbered-push rows (observed names e) kept.numbered (omega (arith, length-map entries (observed names))));
     }
 
   -- with a name more
-  module _ (name : List ℕ) (e : Entry) (new : All (λ known. known ≢ name) names) (place : e.place ≡ length names) (room : length names < most_groups) (n : e.row.number ≡ length entries + 1) (o : IsObservation (observation name e.row)) (few : length entries < most_rows) (light : weight + e.row.weight ≤ 10 ^ 10) where
+  module _ (name : List ℕ) (e : Entry) (new : All (λ known. known ≢ name) names) (place : e.place ≡ length names) (valid : IsValid (with_row (made_of settings names entries pairs) (observation name e.row))) where
     abbrev all_names : List (List ℕ)
     all_names = names ++ name ∷ []
 
@@ -264,8 +188,7 @@ module _ (settings : Settings) (names : List (List ℕ)) (entries : List Entry) 
 
     pub kept-push_new : AreKept settings all_names (entries ++ e ∷ []) (groups ++ (e.row ∷ []) ∷ []) pairs (weight + e.row.weight)
     kept-push_new = record {
-      valid = subst IsValid (sym made-push_new)
-          (valid-push (made_of settings names entries pairs) (observation name e.row) kept.valid kept.numbered (omega (arith, length-map entries (observed names))) o (omega (arith, length-map entries (observed names))) (omega (arith, kept.weight_is)) (omega (arith, ap length names_more, ap length kept.names_are, length_push (group_names rows) name)));
+      valid = subst IsValid (sym made-push_new) valid;
       names_are = all_names_are;
       groups_are =
           ap (λ (t : List (List Row)). t ++ (e.row ∷ []) ∷ []) kept.groups_are
@@ -275,5 +198,4 @@ module _ (settings : Settings) (names : List (List ℕ)) (entries : List Entry) 
       weight_is = omega (arith, kept.weight_is, ap total_weight more_new, sum_by_push (λ (q : Observation). q.weight) rows (observation name e.row));
       placed = All-push (λ f. f.place < length all_names) entries e (All-weaker (λ f. f.place < length names) (λ f. f.place < length all_names) (λ f h. omega (arith, longer, h)) entries kept.placed) (omega (arith, longer, place));
       ends = ends_more;
-      numbered = subst AreNumbered (sym more_new) (numbered-push rows (observation name e.row) kept.numbered (omega (arith, length-map entries (observed names))));
     }

@@ -1,5 +1,5 @@
 -- What the parts of a study say of it: rows with the places of their groups, by rising number, and pairs of places.
-use Rattle.std.specs.Prelude.{◌≡◌, ◌<◌, ◌+◌, ℕ, List, [], length, map, All, slice_get, slice_index_or, Some}
+use Rattle.std.specs.Prelude.{◌≡◌, ◌<◌, ℕ, List, [], length, map, All, slice_index_or}
 use Rattle.ofit_num.specs.declared.row.Row.{Row}
 use Rattle.ofit_study.specs.declared.settings.Settings.{Settings}
 use Rattle.ofit_study.specs.declared.entry.Entry.{Entry}
@@ -19,11 +19,7 @@ named names e = (name_at names e.0, name_at names e.1)
 abbrev pub made_of : Settings → List (List ℕ) → List Entry → List (ℕ × ℕ) → Study
 made_of settings names entries pairs = record { settings = settings; rows = map (observed names) entries; pairs = map (named names) pairs }
 
--- the rows are numbered from 1 on
-abbrev pub AreNumbered : List Observation → Type 0
-AreNumbered rows = (k : ℕ) (r : Observation) → slice_get rows k ≡ Some r → r.number ≡ k + 1
-
--- the parts are those of a valid study whose rows are numbered from 1 on without a gap
+-- the parts are those of a valid study
 pub record AreKept (settings : Settings) (names : List (List ℕ)) (entries : List Entry) (groups : List (List Row)) (pairs : List (ℕ × ℕ)) (weight : ℕ) : Type 0 where
   pub valid : IsValid (made_of settings names entries pairs)
   pub names_are : names ≡ names_of (made_of settings names entries pairs)
@@ -32,4 +28,3 @@ pub record AreKept (settings : Settings) (names : List (List ℕ)) (entries : Li
   pub weight_is : weight ≡ total_weight (map (observed names) entries)
   pub placed : All (λ e. e.place < length names) entries
   pub ends : All (λ e. (e.0 < length names) × (e.1 < length names)) pairs
-  pub numbered : AreNumbered (map (observed names) entries)

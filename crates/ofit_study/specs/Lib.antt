@@ -1,8 +1,14 @@
 pub mod Adding
+pub mod Counted
+pub mod Edited
 pub mod Ends
+pub mod FieldRead
+pub mod FieldText
 pub mod Kept
+pub mod Loss
 pub mod Name
 pub mod PairOrder
 pub mod Settings
+pub mod Splice
 pub mod Study
 pub mod Texts

@@ -1,18 +1,17 @@
 -- A study: settings, rows of named groups, and pairs of groups, the low one of which is to be at most the high one.
-use Rattle.std.specs.Prelude.{◌≡◌, ◌≤◌, ◌<◌, ◌^◌, ◌++◌, ◌⊎◌, ◌↔◌, ℕ, Bool, not, nat_eq, ℤ, List, [], ◌∷◌, length, map, filter, sum_by, unsigned_abs, All, AllPairs, Contains}
+use Rattle.std.specs.Prelude.{◌≡◌, ◌≤◌, ◌<◌, ◌++◌, ◌⊎◌, ◌↔◌, ℕ, Bool, not, nat_eq, ℤ, List, [], ◌∷◌, length, map, filter, sum_by, unsigned_abs, All, AllPairs, Contains}
 use Rattle.std.specs.Cmp.Lexicographic.{pointwise, slice_cmp}
 use Rattle.std.specs.Ordering.{nat_cmp}
 use Rattle.std.specs.declared.cmp.Ordering.TheVariants.{Less}
 use Rattle.std.specs.List.{position_or_len}
 use Rattle.ofit_num.specs.declared.row.Row.{Row}
 use Rattle.ofit_num.specs.Problem.{Problem, Bounds, problem_of}
-use Rattle.ofit_num.specs.Meaning.{Meaning}
-use Rattle.ofit_num.specs.Loss.{squares, median}
 use Rattle.ofit_study.specs.declared.settings.Settings.{Settings}
-use Rattle.ofit_study.specs.declared.settings.LossKind.{LossKind}
-use Rattle.ofit_study.specs.declared.settings.LossKind.TheVariants.{Squares, Median}
 use Rattle.ofit_study.specs.Name.{IsName}
 use Rattle.ofit_study.specs.Settings.{InLimits}
+use Rattle.ofit_num.specs.declared.limits.TheConstants.{MOST_UNITS, MOST_WEIGHT}
+pub use Rattle.ofit_num.specs.declared.limits.TheConstants.{MOST_ROWS as most_rows, MOST_GROUPS as most_groups, MOST_PAIRS as most_pairs}
+pub use Rattle.ofit_study.specs.Loss.{meaning_of}
 
 -- a row: its number, the bytes of its group's name, its value in units and its weight
 pub record Observation : Type 0 where
@@ -60,17 +59,12 @@ abbrev pub places_of : Study → List (ℕ × ℕ)
 places_of s = map (λ e. (place_among (names_of s) e.0, place_among (names_of s) e.1)) s.pairs
 
 -- the bounds of each group are those of the settings
-abbrev pub bounds_of : Settings → ℕ → Bounds
-bounds_of settings g = record { lo = settings.lo; hi = settings.hi }
-
--- what a loss means
-abbrev pub meaning_of : LossKind → Meaning
-meaning_of Squares = squares
-meaning_of Median = median
+abbrev pub bounds_of : Study → ℕ → Bounds
+bounds_of s g = record { lo = s.settings.lo; hi = s.settings.hi }
 
 -- the problem of isotonic regression that a study states
 abbrev pub problem_stated : Study → Problem
-problem_stated s = problem_of (groups_of s) (places_of s) (bounds_of s.settings)
+problem_stated s = problem_of (groups_of s) (places_of s) (bounds_of s)
 
 abbrev pub total_weight : List Observation → ℕ
 total_weight rows = sum_by (λ r. r.weight) rows
@@ -83,22 +77,12 @@ IsBefore a b = slice_cmp nat_cmp a b ≡ Less
 abbrev pub ComesBefore : List ℕ × List ℕ → List ℕ × List ℕ → Type 0
 ComesBefore e f = IsBefore e.0 f.0 ⊎ ((e.0 ≡ f.0) × IsBefore e.1 f.1)
 
--- the most rows, groups and pairs of a study
-abbrev pub most_rows : ℕ
-most_rows = 100000
-
-abbrev pub most_groups : ℕ
-most_groups = 2000
-
-abbrev pub most_pairs : ℕ
-most_pairs = 20000
-
 -- a row within its limits
 pub record IsObservation (r : Observation) : Type 0 where
   pub least_number : 1 ≤ r.number
   pub greatest_number : r.number ≤ most_rows
   pub group : IsName r.group
-  pub value : unsigned_abs r.value ≤ 10 ^ 9
+  pub value : unsigned_abs r.value ≤ MOST_UNITS
   pub weight : 1 ≤ r.weight
 
 -- what each study keeps
@@ -106,7 +90,7 @@ pub record IsValid (s : Study) : Type 0 where
   pub settings : InLimits s.settings
   pub each : All IsObservation s.rows
   pub rising : AllPairs (λ a b. a.number < b.number) s.rows
-  pub together : total_weight s.rows ≤ 10 ^ 10
+  pub together : total_weight s.rows ≤ MOST_WEIGHT
   pub rows : length s.rows ≤ most_rows
   pub groups : length (names_of s) ≤ most_groups
   pub known : All (λ e. Contains (names_of s) e.0 × Contains (names_of s) e.1) s.pairs
@@ -121,8 +105,6 @@ pub record IsFreeNumber (rows : List Observation) (number : ℕ) : Type 0 where
 
 -- the study with a row more, among the others by its number
 pub record GainsRow (before : Study) (group : List ℕ) (value : ℤ) (weight : ℕ) (after : Study) : Type 0 where
-  pub settings : after.settings ≡ before.settings
-  pub pairs : after.pairs ≡ before.pairs
   pub number : ℕ
   pub free : IsFreeNumber before.rows number
   pub lower : List Observation
@@ -130,12 +112,11 @@ pub record GainsRow (before : Study) (group : List ℕ) (value : ℤ) (weight : 
   pub parted : before.rows ≡ lower ++ higher
   pub below : All (λ r. r.number < number) lower
   pub above : All (λ r. number < r.number) higher
-  pub rows : after.rows ≡ lower ++ record { number = number; group = group; value = value; weight = weight } ∷ higher
+  pub gains : after ≡ record before { rows = lower ++ record { number = number; group = group; value = value; weight = weight } ∷ higher }
 
 -- the study with other pairs, which are those of the places, each once
 pub record HasPairs (before : Study) (places : List (ℕ × ℕ)) (after : Study) : Type 0 where
-  pub settings : after.settings ≡ before.settings
-  pub rows : after.rows ≡ before.rows
+  pub others : after ≡ record before { pairs = after.pairs }
   pub in_order : AllPairs ComesBefore after.pairs
   pub only : (e : ℕ × ℕ) → Contains places e ↔ Contains (places_of after) e
   pub known : All (λ e. Contains (names_of after) e.0 × Contains (names_of after) e.1) after.pairs

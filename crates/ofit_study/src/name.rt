@@ -1,11 +1,9 @@
 ghost use Rattle.std.specs.Prelude.{◌≡◌, ◌↔◌, ◌≤◌, ◌<◌, ◌≢◌, IsTrue, IfOk, MatchOption, All, IsUtf8};
 ghost use Rattle.ofit_study.specs.Name.{IsName, IsNameByte};
 
+use ofit_num::LONGEST_NAME;
 use std::alloc::{AllocError, Global};
 use std::marker::Model;
-
-/// The greatest length of a name, in bytes.
-const MOST_BYTES: usize = 64;
 
 /// The name of a group: 1 to 64 bytes of UTF-8, none of them a control byte.
 #[derive(Drop)]
@@ -61,7 +59,7 @@ fn is_plain(bytes: &[u8]) -> bool
 pub fn is_name(bytes: &[u8]) -> bool
     ensures { IsTrue result ↔ IsName bytes.now }
 {
-    !bytes.is_empty() && bytes.len() <= MOST_BYTES && is_plain(bytes)
+    !bytes.is_empty() && bytes.len() <= LONGEST_NAME && is_plain(bytes)
 }
 
 impl Name {

@@ -1,11 +1,4 @@
-/// The loss that a fit makes least.
-#[derive(Clone, Copy, Debug, PartialEq, Eq)]
-pub enum LossKind {
-    /// Weighted squares: the fit of weighted means.
-    Squares,
-    /// Weighted absolute differences: the fit of weighted medians.
-    Median,
-}
+use crate::loss::LossKind;
 
 /// The loss, the decimal places of a value and the bounds of a fit.
 #[derive(Clone, Copy, Debug, PartialEq, Eq)]

@@ -1,5 +1,4 @@
-use crate::entry::Entry;
-use crate::fault::AddFault;
+use crate::entry::{Entry, gap_among, index_of_number};
 use crate::groups::GroupRows;
 use crate::names::Names;
 use crate::pairs::{Pairs, index_of, ordered_pairs};
@@ -9,15 +8,6 @@ use ofit_order::{Order, check_order};
 use std::alloc::{AllocError, Global};
 use std::cmp::Ordering;
 use std::marker::Model;
-
-/// The most rows of a study.
-const MOST_ROWS: usize = 100_000;
-
-/// The most groups of a study.
-const MOST_GROUPS: u32 = 2_000;
-
-/// The greatest total weight of a study.
-const MOST_WEIGHT: u64 = 10_000_000_000;
 
 /// Rows of named groups, pairs of groups of which the low one is to be at most the high one, and the
 /// settings of a fit. Groups have places from 0, in the order of their first rows; a pair may have
@@ -44,15 +34,16 @@ impl Model for Study {
 }
 
 impl Study {
-    ghost use Rattle.std.specs.Prelude.{◌≡◌, ◌≢◌, ◌≤◌, ◌<◌, ◌+◌, ◌^◌, ◌↔◌, ℕ, length, unsigned_abs, All, Contains, IfOk, OnOk, OnErr, IfErr, MatchOption, slice_get, Some};
+    ghost use Rattle.std.specs.Prelude.{◌≡◌, ◌≢◌, ◌≤◌, ◌<◌, ◌+◌, ◌^◌, ◌↔◌, ℕ, [], length, map, All, AllPairs, Contains, IfOk, OnOk, OnErr, MatchOption, slice_get, Some};
     ghost use Rattle.ofit_order.specs.Relation.{AreInOrder};
     ghost use Rattle.ofit_study.specs.Settings.{InLimits, IsBoundInLimits};
-    ghost use Rattle.ofit_study.specs.Name.{IsName};
-    ghost use Rattle.ofit_study.specs.Adding.{observation, with_row, IsTaken, IsRefused};
-    ghost use Rattle.ofit_study.specs.Kept.{name_at};
+    ghost use Rattle.ofit_study.specs.Adding.{observation, with_row, IsFirstGap};
+    ghost use Rattle.ofit_study.specs.Edited.{HasRow};
+    ghost use Rattle.ofit_study.specs.Kept.{name_at, named};
+    ghost use Rattle.ofit_study.specs.Splice.{IsRowAt};
     ghost use Rattle.ofit_study.specs.Ends.{indexes_at};
     ghost use Rattle.std.specs.Ordering.{nat_cmp};
-    ghost use Rattle.ofit_study.specs.Study.{IsValid, IsObservation, GainsRow, HasPairs, most_rows, most_groups, most_pairs, empty_study, names_of, groups_of, places_of, bounds_of, total_weight};
+    ghost use Rattle.ofit_study.specs.Study.{ComesBefore, IsValid, HasPairs, most_pairs, empty_study, names_of, groups_of, places_of, bounds_of, total_weight};
 
     /// The study of no rows. It takes no memory.
     pub fn empty(alloc: Global, settings: Settings) -> Study
@@ -70,42 +61,39 @@ impl Study {
     }
 
     /// Puts a row after the others, in the group with the name; a new name makes a group after the
-    /// others. The row gets the least number from 1 on that no row has. Expected constant amortised
-    /// time.
-    ///
-    /// # Errors
-    ///
-    /// The first limit that keeps the row out, or want of memory; then the study is as before.
-    pub fn add_row(&mut self, name: &[u8], value: i64, weight: u64) -> Result<(), AddFault>
-        requires name { IsName name.now }
-        requires value { unsigned_abs value ≤ 10 ^ 9 }
-        requires weight { (1 ≤ weight) × (weight ≤ 10 ^ 10) }
-        ensures added { OnOk result (GainsRow self.old name.now value weight self.new) }
-        ensures taken { OnOk result (IsTaken self.old name.now weight) }
-        ensures refused { IfErr result (λ fault. IsRefused self.old name.now weight fault) }
-        ensures unchanged { OnErr result (self.new ≡ self.old) }
+    /// others.
+    pub(crate) fn push(&mut self, name: &[u8], row: Row) -> Result<(), AllocError>
+        requires { IsValid (with_row self.old (observation name.now row)) }
+        ensures ok { OnOk result (self.new ≡ with_row self.old (observation name.now row)) }
+        ensures err { OnErr result (self.new ≡ self.old) }
     {
-        if self.entries.len() >= MOST_ROWS {
-            return Err(AddFault::TooManyRows);
-        }
-        if weight > MOST_WEIGHT - self.weight {
-            return Err(AddFault::TooHeavy);
-        }
-        let number = self.entries.len() as u32 + 1;
-        let row = Row {
-            number,
-            value,
-            weight,
-        };
-        let added = match self.names.place_near(self.latest_place(), name) {
+        match self.names.place_near(self.latest_place(), name) {
             Some(place) => self.add_to_group(place, row),
-            None if self.names.count() >= MOST_GROUPS => return Err(AddFault::TooManyGroups),
             None => self.add_group(name, row),
-        };
-        match added {
-            Ok(()) => Ok(()),
-            Err(_) => Err(AddFault::Memory),
         }
+    }
+
+    /// How many rows have the numbers from 1 on, before the least number that no row has.
+    pub(crate) fn first_gap(&self) -> usize
+        ensures { IsFirstGap (map (λ r. r.number) self.now.rows) result }
+    {
+        gap_among(self.entries.as_slice())
+    }
+
+    /// The index of the row of a number.
+    pub(crate) fn row_index(&self, number: u32) -> Option<usize>
+        ensures { MatchOption result (HasRow self.now number → ⊥) (λ index. IsRowAt self.now index number) }
+    {
+        index_of_number(self.entries.as_slice(), number)
+    }
+
+    /// The row at an index, with the name of its group.
+    pub(crate) fn row_at(&self, index: usize) -> (&[u8], Row)
+        requires { index < length self.now.rows }
+        ensures { slice_get self.now.rows index ≡ Some (observation result.0.now result.1) }
+    {
+        let entry = self.entries[index];
+        (self.names.at(entry.place), entry.row)
     }
 
     /// The place of the row that was added last, 0 where there is none.
@@ -119,10 +107,7 @@ impl Study {
     /// Puts a row into the group at a place.
     fn add_to_group(&mut self, place: u32, row: Row) -> Result<(), AllocError>
         requires place { place < length (names_of self.old) }
-        requires number { row.number ≡ length self.old.rows + 1 }
-        requires row { IsObservation (observation (name_at (names_of self.old) place) row) }
-        requires few { length self.old.rows < most_rows }
-        requires light { total_weight self.old.rows + row.weight ≤ 10 ^ 10 }
+        requires valid { IsValid (with_row self.old (observation (name_at (names_of self.old) place) row)) }
         ensures ok { OnOk result (self.new ≡ with_row self.old (observation (name_at (names_of self.old) place) row)) }
         ensures err { OnErr result (self.new ≡ self.old) }
     {
@@ -142,11 +127,7 @@ impl Study {
     /// Puts a row into a new group.
     fn add_group(&mut self, name: &[u8], row: Row) -> Result<(), AllocError>
         requires new { All (λ known. known ≢ name.now) (names_of self.old) }
-        requires room { length (names_of self.old) < most_groups }
-        requires number { row.number ≡ length self.old.rows + 1 }
-        requires row { IsObservation (observation name.now row) }
-        requires few { length self.old.rows < most_rows }
-        requires light { total_weight self.old.rows + row.weight ≤ 10 ^ 10 }
+        requires valid { IsValid (with_row self.old (observation name.now row)) }
         ensures ok { OnOk result (self.new ≡ with_row self.old (observation name.now row)) }
         ensures err { OnErr result (self.new ≡ self.old) }
     {
@@ -169,6 +150,37 @@ impl Study {
         }
     }
 
+    /// The study without its rows and pairs. It takes no memory.
+    pub(crate) fn emptied(&self) -> Study
+        ensures { result ≡ record self.now { rows = []; pairs = [] } }
+    {
+        Study::empty(self.allocator(), self.settings)
+    }
+
+    /// Puts pairs of places, by the bytes of the low name, then of the high name, in place of the
+    /// study's own.
+    pub(crate) fn set_pairs(&mut self, pairs: Vec<(u32, u32)>) -> Result<(), AllocError>
+        requires within { All (λ e. (e.0 < length (names_of self.old)) × (e.1 < length (names_of self.old))) pairs.items }
+        requires in_order { AllPairs ComesBefore (map (named (names_of self.old)) pairs.items) }
+        requires few { length pairs.items ≤ most_pairs }
+        ensures { OnOk result (self.new ≡ record self.old { pairs = map (named (names_of self.old)) pairs.items }) }
+    {
+        let made = Pairs::make(self.allocator(), pairs, self.names.count())?;
+        self.pairs = made;
+        Ok(())
+    }
+
+    pub(crate) fn allocator(&self) -> Global {
+        *self.entries.allocator()
+    }
+
+    /// The pairs by the places of their groups, in the order of the pairs.
+    pub(crate) fn pairs(&self) -> &[(u32, u32)]
+        ensures { result.now ≡ places_of self.now }
+    {
+        self.pairs.as_slice()
+    }
+
     /// The loss, the decimal places and the bounds of the fit.
     pub fn settings(&self) -> &Settings
         ensures settings { result.now ≡ self.now.settings }
@@ -180,11 +192,18 @@ impl Study {
     /// The least and the greatest value that the fit may give the group at a place, each where there
     /// is one.
     pub fn bounds_of(&self, place: u32) -> (Option<i64>, Option<i64>)
-        ensures lo { result.0 ≡ (bounds_of self.now.settings place).lo }
-        ensures hi { result.1 ≡ (bounds_of self.now.settings place).hi }
+        ensures lo { result.0 ≡ (bounds_of self.now place).lo }
+        ensures hi { result.1 ≡ (bounds_of self.now place).hi }
         ensures limits { IsBoundInLimits result.0 × IsBoundInLimits result.1 }
     {
         (self.settings.lo, self.settings.hi)
+    }
+
+    /// Says that the study keeps its limits, and does nothing.
+    pub fn keeps_limits(&self)
+        ensures valid { IsValid self.now }
+    {
+        let _weight = self.weight;
     }
 
     /// The number of groups, at most 2,000.
@@ -261,8 +280,10 @@ impl Study {
         index_of(&self.names, self.pairs.as_slice(), (low, high))
     }
 
-    /// Which of two pairs of places comes first in the order of the pairs.
+    /// Which of two pairs of the study, told by their places, comes first in the order of the pairs.
     pub fn compare_pairs(&self, first: (u32, u32), second: (u32, u32)) -> Ordering
+        requires first { Contains (places_of self.now) first }
+        requires second { Contains (places_of self.now) second }
         ensures { (i j : ℕ) → slice_get (places_of self.now) i ≡ Some first
             → slice_get (places_of self.now) j ≡ Some second → result ≡ nat_cmp i j }
     {
@@ -280,7 +301,7 @@ impl Study {
     pub fn copy(&self) -> Result<Study, AllocError>
         ensures { IfOk result (λ study. study ≡ self.now) }
     {
-        let alloc = *self.entries.allocator();
+        let alloc = self.allocator();
         Ok(Study {
             settings: self.settings,
             names: self.names.copy()?,
@@ -298,18 +319,10 @@ impl Study {
         requires few { length pairs.now ≤ most_pairs }
         ensures { IfOk result (λ study. HasPairs self.now pairs.now study) }
     {
-        let alloc = *self.entries.allocator();
-        let names = self.names.copy()?;
-        let ordered = ordered_pairs(alloc, &names, pairs)?;
-        let pairs = Pairs::make(alloc, ordered, self.names.count())?;
-        Ok(Study {
-            settings: self.settings,
-            names,
-            entries: Vec::from_slice(alloc, self.entries.as_slice())?,
-            groups: self.groups.copy()?,
-            pairs,
-            weight: self.weight,
-        })
+        let ordered = ordered_pairs(self.allocator(), &self.names, pairs)?;
+        let mut study = self.copy()?;
+        study.set_pairs(ordered)?;
+        Ok(study)
     }
 
     /// The order of the study's groups by its pairs. O((n + m) log n) time and linear memory for n

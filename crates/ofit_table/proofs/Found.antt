@@ -1,15 +1,16 @@
 -- What is read so far, and the fault of the next record.
 use Rattle.std.proofs.Common.{◌≡◌, ◌++◌, ◌+◌, ◌⊎◌, ◌∙◌, ℕ, ℤ, List, [], ◌∷◌, inl, inr, length, sym, ap, subst, append_assoc}
 use Rattle.std.specs.List.{AllZip}
+use Rattle.ofit_num.proofs.Lists.{zip-push}
 use Rattle.ofit_study.specs.declared.settings.Settings.{Settings}
-use Rattle.ofit_study.specs.Kept.{AreNumbered}
+use Rattle.ofit_table.specs.Numbered.{AreNumbered}
 use Rattle.ofit_study.specs.Study.{Observation, Study, IsValid}
 use Rattle.ofit_table.specs.declared.header.DataColumns.{DataColumns}
 use Rattle.ofit_table.specs.declared.fault.DataFault.{DataFault}
 use Rattle.ofit_table.specs.declared.fault.DataFault.TheVariants.{Memory}
 use Rattle.ofit_table.specs.Rows.{IsGood, IsRow, HasFault, RowFault}
 use Rattle.ofit_table.specs.Reading.{GainsRecord, IsSoFar}
-use Rattle.ofit_table.proofs.Pushed.{numbered-push, pushed, zip-push}
+use Rattle.ofit_table.proofs.Pushed.{numbered-push, pushed}
 
 same_row : (places : ℕ) (columns : DataColumns) (fields : List (List ℕ)) (group : List ℕ) (value : ℤ) (weight : ℕ) (row : Observation) → IsGood places columns fields group value weight
     → row.group ≡ group → row.value ≡ value → row.weight ≡ weight → IsRow places columns fields row
@@ -30,8 +31,8 @@ one_more columns records left fields settings s t so g =
       parted = so.parted ∙ sym (append_assoc so.done (fields ∷ []) left);
       each = subst (AllZip (IsRow settings.places columns) (so.done ++ fields ∷ [])) (sym p.rows) (zip-push (IsRow settings.places columns) so.done s.rows fields p.row so.each row);
       numbered = subst AreNumbered (sym p.rows) (numbered-push s.rows p.row so.numbered p.number_is);
-      same = g.gains.settings ∙ so.same;
-      without = g.gains.pairs ∙ so.without;
+      same = ap (λ (t : Study). t.settings) g.gains.gains ∙ so.same;
+      without = ap (λ (t : Study). t.pairs) g.gains.gains ∙ so.without;
     }
 
 -- the next record has the fault that the call tells

@@ -5,6 +5,7 @@ use Rattle.std.specs.List.{AllZip}
 use Rattle.std.proofs.lemmas.List.{length-append}
 use Rattle.std.proofs.lemmas.List.Elements.{All-cons, All-nil, All-contains, Contains-append_left, Contains-get_or, Contains-push, Contains-push_cases}
 use Rattle.std.proofs.lemmas.List.Quantifiers.{all_pairs_push}
+use Rattle.ofit_num.proofs.Lists.{zip-push}
 use Rattle.ofit_study.specs.Study.{HasPairs, Study, most_pairs}
 use Rattle.ofit_table.specs.declared.fault.OrderFault.{OrderFault}
 use Rattle.ofit_table.specs.declared.fault.OrderFault.TheVariants.{Memory}
@@ -13,7 +14,6 @@ use Rattle.ofit_table.specs.Pairs.{AreDistinct, ArePairs, HasPairFault, IsPair, 
 use Rattle.ofit_table.specs.Reading.{IsNotTaken, IsReadSoFar, KnownRead, KnowsPair}
 use Rattle.ofit_table.proofs.PatternPairs.{IsInside}
 use Rattle.ofit_table.proofs.Places.{within}
-use Rattle.ofit_table.proofs.Pushed.{zip-push}
 
 distinct_more : (pairs known after : List (ℕ × ℕ)) (pair : ℕ × ℕ) → AreDistinct pairs known → KnowsPair known pair after → AreDistinct (pairs ++ pair ∷ []) after
 distinct_more pairs known after pair d (inl (there, same)) = subst (AreDistinct (pairs ++ pair ∷ [])) (sym same) record {
@@ -96,8 +96,7 @@ known_inside columns names records known h k e lt =
 -- a study takes pairs as it takes them each once
 pub pairs_taken : (study after : Study) (pairs known : List (ℕ × ℕ)) → AreDistinct pairs known → HasPairs study known after → HasPairs study pairs after
 pairs_taken study after pairs known d h = record {
-  settings = h.settings;
-  rows = h.rows;
+  others = h.others;
   in_order = h.in_order;
   only = λ e. (λ c. (h.only e).0 ((d.same e).1 c), λ c. (d.same e).0 ((h.only e).1 c));
   known = h.known;

@@ -1,7 +1,6 @@
 pub mod Places
 pub mod Pushed
 pub mod Found
-pub mod Ranges
 pub mod PatternPairs
 pub mod PairKeys
 pub mod KnownPairs
@@ -10,7 +9,6 @@ pub mod HeaderReadings
 pub mod RecordReadings
 pub mod LimitReadings
 pub mod TableReadings
-pub mod Members
 pub mod NamedPairs
 pub mod PatternReadings
 pub mod PairReadings

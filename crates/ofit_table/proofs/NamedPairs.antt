@@ -9,9 +9,9 @@ use Rattle.std.proofs.lemmas.Cmp.{nat_list_cmp_total}
 use Rattle.std.proofs.lemmas.List.Elements.{All-contains}
 use Rattle.std.proofs.lemmas.Option.{slice_get_within, get_or_from_slice_get}
 use Rattle.ofit_study.specs.Kept.{name_at}
-use Rattle.ofit_study.specs.Study.{ComesBefore, HasPairs, IsBefore, Study, group_names, names_of, place_among, places_of}
+use Rattle.ofit_study.specs.Study.{ComesBefore, HasPairs, IsBefore, Study, names_of, place_among, places_of}
 use Rattle.ofit_study.proofs.Stating.{name_at-place}
-use Rattle.ofit_table.proofs.Members.{from_map, in_map, sorted_one}
+use Rattle.ofit_num.proofs.Members.{from_map, in_map, sorted_one}
 
 -- the place of a name among distinct ones
 pub named_place : (names : List (List ℕ)) (name : List ℕ) (p q : ℕ) → AllPairs (λ a b. a ≢ b) names → slice_get names p ≡ Some name → slice_get names q ≡ Some name → p ≡ q
@@ -72,8 +72,8 @@ known_in names others pairs e h = subst (λ (t : List (List ℕ)). All (AreKnown
 pub paired_one : (study : Study) (places : List (ℕ × ℕ)) (s t : Study) → HasPairs study places s → HasPairs study places t → s ≡ t
 paired_one study places s t h k =
     let names = names_of study in
-    let of_s : names_of s ≡ names = ap group_names h.rows in
-    let of_t : names_of t ≡ names = ap group_names k.rows in
+    let of_s : names_of s ≡ names = ap (λ (u : Study). names_of u) h.others in
+    let of_t : names_of t ≡ names = ap (λ (u : Study). names_of u) k.others in
     let at_s : places_of s ≡ map (placed names) s.pairs = ap (λ (u : List (List ℕ)). map (placed u) s.pairs) of_s in
     let at_t : places_of t ≡ map (placed names) t.pairs = ap (λ (u : List (List ℕ)). map (placed u) t.pairs) of_t in
     let known_s = known_in names (names_of s) s.pairs of_s h.known in
@@ -81,6 +81,4 @@ paired_one study places s t h k =
     let on = member names s.pairs t.pairs known_s known_t (λ p c. subst (λ (u : List (ℕ × ℕ)). Contains u p) at_t ((k.only p).0 ((h.only p).1 (subst (λ (u : List (ℕ × ℕ)). Contains u p) (sym at_s) c)))) in
     let back = member names t.pairs s.pairs known_t known_s (λ p c. subst (λ (u : List (ℕ × ℕ)). Contains u p) at_s ((h.only p).0 ((k.only p).1 (subst (λ (u : List (ℕ × ℕ)). Contains u p) (sym at_t) c)))) in
     let pairs : s.pairs ≡ t.pairs = sorted_one ComesBefore never over s.pairs t.pairs h.in_order k.in_order on back in
-    let rows : s.rows ≡ t.rows = h.rows ∙ sym k.rows in
-    let settings : s.settings ≡ t.settings = h.settings ∙ sym k.settings in
-    λ i. record { settings = settings i; rows = rows i; pairs = pairs i }
+    h.others ∙ ap (λ (u : List (List ℕ × List ℕ)). record study { pairs = u }) pairs ∙ sym k.others

@@ -1,6 +1,7 @@
 -- An order file is read in one way.
 use Rattle.std.proofs.Common.{◌≡◌, ◌≢◌, ◌+◌, ◌⊎◌, ◌++◌, ◌∙◌, ℕ, List, [], ◌∷◌, Result, Ok, Err, length, refl, sym, ap, subst}
 use Rattle.std.specs.Prelude.{AllPairs}
+use Rattle.ofit_num.proofs.Partings.{at_one, first_shorter, parted, second_shorter}
 use Rattle.ofit_records.specs.Records.{records_of}
 use Rattle.ofit_study.specs.Study.{HasPairs, Study, names_of}
 use Rattle.ofit_study.proofs.GroupNames.{group_names-distinct}
@@ -12,7 +13,7 @@ use Rattle.ofit_table.specs.PairsRead.{HasOrderHeaderFault, HasPairsOf, HasRecor
 use Rattle.ofit_table.proofs.NamedPairs.{paired_one}
 use Rattle.ofit_table.proofs.OrderHeaders.{columns_one, header_fault_one, no_header_fault}
 use Rattle.ofit_table.proofs.PairReadings.{none_at, pair_fault_one, pairs_one}
-use Rattle.ofit_table.proofs.Partings.{at_one, first_shorter, heads, not_empty, parted, second_shorter, split, tails}
+use Rattle.ofit_table.proofs.Partings.{heads, not_empty, split, tails}
 
 module _ (columns : OrderColumns) (names : List (List ℕ)) (apart : AllPairs (λ a b. a ≢ b) names) where
   -- the fault of a record with this number behind these pairs

@@ -11,7 +11,8 @@ use Rattle.ofit_table.specs.declared.fault.OrderFault.{OrderFault}
 use Rattle.ofit_table.specs.declared.fault.OrderFault.TheVariants.{NoHeader, NoColumn, ColumnTwice, FieldMissing, UnknownGroup, TooManyPairs, NoGroup, Memory}
 use Rattle.ofit_table.specs.declared.header.OrderColumns.{OrderColumns}
 use Rattle.ofit_table.specs.Pairs.{AreDistinct, AreEnds, ArePairs, IsPair, IsPairTooMany, IsUnknown, PairFault}
-use Rattle.ofit_table.proofs.Members.{cons_first, fit}
+use Rattle.ofit_num.proofs.Members.{cons_first}
+use Rattle.ofit_num.proofs.Pigeonhole.{distinct_few}
 use Rattle.ofit_table.proofs.NamedPairs.{named_place}
 use Rattle.ofit_table.proofs.Places.{within}
 use Rattle.ofit_table.proofs.RecordReadings.{field_one}
@@ -104,7 +105,7 @@ module _ (columns : OrderColumns) (names : List (List ℕ)) where
     overfull : (before rest : List (ℕ × ℕ)) (pair : ℕ × ℕ) (kept all : List (ℕ × ℕ)) → AreDistinct before kept → All (λ earlier. earlier ≢ pair) before → AreDistinct (before ++ pair ∷ rest) all → length kept + 1 ≤ length all
     overfull before rest pair kept all d new a =
         let apart_from : All (λ earlier. earlier ≢ pair) kept = λ k e lt. All-contains (λ x. x ≢ pair) before (get_or kept k e) new ((d.same (get_or kept k e)).0 (Contains-get_or kept k e lt)) in
-        let within_all = fit (kept ++ pair ∷ []) all (all_pairs_push (λ x y. x ≢ y) kept pair d.each apart_from) (λ e h. on e (Contains-push_cases kept pair e h)) in
+        let within_all = distinct_few (kept ++ pair ∷ []) all (all_pairs_push (λ x y. x ≢ y) kept pair d.each apart_from) (λ e h. on e (Contains-push_cases kept pair e h)) in
         omega (arith, within_all, length-append kept (pair ∷ []))
       where
         on : (e : ℕ × ℕ) → Contains kept e ⊎ (pair ≡ e) → Contains all e

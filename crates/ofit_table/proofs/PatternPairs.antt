@@ -6,9 +6,10 @@ use Rattle.std.proofs.lemmas.List.Elements.{All-append, All-nil}
 use Rattle.std.proofs.lemmas.List.FromFn.{length-map-range_with_len}
 use Rattle.ofit_study.specs.declared.pattern.Pattern.{Pattern}
 use Rattle.ofit_study.specs.declared.pattern.Pattern.TheVariants.{NoPairs, Chain, Umbrella, Tree}
-use Rattle.ofit_table.specs.PatternRead.{ArePatternPairs, chain_pairs, falling, fanned, rising_to, tree_pairs, umbrella_pairs}
+use Rattle.ofit_num.specs.Pairs.{chain_pairs, falling, fanned, rising_to, tree_pairs, umbrella_pairs}
+use Rattle.ofit_table.specs.PatternRead.{ArePatternPairs}
 use Rattle.ofit_table.proofs.Places.{within}
-use Rattle.ofit_table.proofs.Ranges.{all-range}
+use Rattle.ofit_num.proofs.Ranges.{all-range}
 
 abbrev pub IsInside : ℕ → ℕ × ℕ → Type 0
 IsInside n e = (e.0 < n) × (e.1 < n)

@@ -9,7 +9,8 @@ use Rattle.ofit_study.proofs.GroupNames.{group_names-distinct}
 use Rattle.ofit_study.proofs.Pushing.{slice_get-Contains}
 use Rattle.ofit_table.specs.declared.fault.OrderFault.{OrderFault}
 use Rattle.ofit_table.specs.declared.fault.OrderFault.TheVariants.{NoHeader, NoColumn, ColumnTwice, FieldMissing, UnknownGroup, TooManyPairs, NoGroup, Memory}
-use Rattle.ofit_table.specs.PatternRead.{ArePatternPairs, PatternRead, tree_pairs, umbrella_pairs}
+use Rattle.ofit_num.specs.Pairs.{tree_pairs, umbrella_pairs}
+use Rattle.ofit_table.specs.PatternRead.{ArePatternPairs, PatternRead}
 use Rattle.ofit_table.proofs.NamedPairs.{named_place, paired_one}
 
 module _ (names : List (List ℕ)) (apart : AllPairs (λ a b. a ≢ b) names) where

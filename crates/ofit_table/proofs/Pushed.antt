@@ -1,11 +1,10 @@
 -- A row after the others of a table.
 use Rattle.std.proofs.Common.{◌≡◌, ◌<◌, ◌+◌, ◌-◌, ◌++◌, ◌∙◌, ℕ, ℤ, append-nil, zero, suc, List, [], ◌∷◌, Some, map, length, slice_get, get_or, refl, sym, ap, subst, inl, inr, arith}
 use Rattle.std.specs.Prelude.{All, Contains}
-use Rattle.std.specs.List.{AllZip}
 use Rattle.std.proofs.lemmas.Bool.{cases_lt}
 use Rattle.std.proofs.lemmas.List.{length-map, get_or-map, length-append}
 use Rattle.std.proofs.lemmas.Option.{slice_get-get_or, same_Some}
-use Rattle.ofit_study.specs.Kept.{AreNumbered}
+use Rattle.ofit_table.specs.Numbered.{AreNumbered}
 use Rattle.ofit_study.specs.Study.{GainsRow, IsFreeNumber, Observation, Study}
 
 -- the numbers rise from n on
@@ -86,12 +85,6 @@ pushed s group value weight t h g =
       group_is = refl;
       value_is = refl;
       weight_is = refl;
-      rows = g.rows ∙ ap (λ (x : List Observation). g.lower ++ row ∷ x) none ∙ ap (λ (x : List Observation). x ++ row ∷ []) (sym all);
+      rows = ap (λ (u : Study). u.rows) g.gains ∙ ap (λ (x : List Observation). g.lower ++ row ∷ x) none ∙ ap (λ (x : List Observation). x ++ row ∷ []) (sym all);
       number_is = n;
     }
-
-pub zip-push : {A B : Type 0} (R : A → B → Type 0) (xs : List A) (ys : List B) (x : A) (y : B) → AllZip R xs ys → R x y → AllZip R (xs ++ x ∷ []) (ys ++ y ∷ [])
-zip-push R [] [] x y h r = (r, tt)
-zip-push R [] (b ∷ ys) x y h r = absurd h
-zip-push R (a ∷ xs) [] x y h r = absurd h
-zip-push R (a ∷ xs) (b ∷ ys) x y h r = (h.0, zip-push R xs ys x y h.1 r)

@@ -1,16 +1,18 @@
 -- A record of a data table is read in one way.
-use Rattle.std.proofs.Common.{◌≡◌, ◌^◌, ◌∙◌, ℕ, ℤ, pos, List, Option, Some, None, Result, Ok, Err, inl, inr, refl, sym, ap, subst, arith}
-use Rattle.std.specs.Prelude.{slice_get, unsigned_abs}
+use Rattle.std.proofs.Common.{◌≡◌, ◌∙◌, ℕ, ℤ, List, Option, Some, None, Result, Ok, Err, inl, inr, refl, sym, ap, subst, arith}
+use Rattle.std.specs.Prelude.{slice_get}
 use Rattle.ofit_num.specs.declared.decimal.NumFault.{NumFault}
 use Rattle.ofit_num.specs.declared.decimal.NumFault.TheVariants as num
-use Rattle.ofit_num.specs.DecimalText.{IsUnits, UnitsRead}
+use Rattle.ofit_num.specs.DecimalText.{IsUnits}
 use Rattle.ofit_num.proofs.DecimalTexts.{one_number}
-use Rattle.ofit_num.proofs.ReadBack.{one_answer}
+use Rattle.ofit_study.specs.FieldRead.{IsValue, ValueRead}
+use Rattle.ofit_study.proofs.FieldReads.{one_value, one_weight}
 use Rattle.ofit_study.specs.Name.{IsName}
 use Rattle.ofit_table.specs.declared.fault.DataFault.{DataFault}
 use Rattle.ofit_table.specs.declared.fault.DataFault.TheVariants.{NoHeader, NoColumn, ColumnTwice, FieldMissing, NotName, NotNumber, TooFine, TooLarge, BadWeight, TooManyRows, TooHeavy, TooManyGroups, Memory}
 use Rattle.ofit_table.specs.declared.header.DataColumns.{DataColumns}
-use Rattle.ofit_table.specs.Rows.{AreNamed, AreTexts, IsGood, IsShortOf, IsTooShort, IsValue, IsWeight, IsWeightText, OwnFault, Texts}
+use Rattle.ofit_table.specs.Rows.{AreNamed, AreTexts, IsGood, IsShortOf, IsTooShort, IsRowWeight, IsWeightText, OwnFault, Texts}
+use Rattle.ofit_table.specs.Reading.{value_fault}
 use Rattle.ofit_table.proofs.Places.{within}
 
 pub field_one : (fields : List (List ℕ)) (place : ℕ) (a b : List ℕ) → slice_get fields place ≡ Some a → slice_get fields place ≡ Some b → a ≡ b
@@ -29,15 +31,9 @@ short_weight None fields text s h = absurd s
 short_weight (Some place) fields None s h = absurd h
 short_weight (Some place) fields (Some text) s h = absurd (omega (arith, s, within fields place text h))
 
-weight_one : (text : Option (List ℕ)) (a b : ℕ) → IsWeight text a → IsWeight text b → a ≡ b
+weight_one : (text : Option (List ℕ)) (a b : ℕ) → IsRowWeight text a → IsRowWeight text b → a ≡ b
 weight_one None a b h k = h ∙ sym k
-weight_one (Some text) a b h k = ap unsigned_abs (one_number text 0 (pos a) (pos b) h.0 k.0)
-
--- the fault of a record whose value isn't read
-abbrev number_fault : NumFault → ℕ → DataFault
-number_fault num.NotNumber number = NotNumber number
-number_fault num.TooFine number = TooFine number
-number_fault num.TooLarge number = TooLarge number
+weight_one (Some text) a b h k = one_weight text a b h k
 
 err_same : (a b : NumFault) (r s : Result ℤ NumFault) → r ≡ s → r ≡ Err a → s ≡ Err b → a ≡ b
 err_same a b r s e p q = cc
@@ -69,8 +65,8 @@ module _ (places : ℕ) (columns : DataColumns) (fields : List (List ℕ)) where
       let t : k.texts ≡ h.texts = texts_one k.texts h.texts k.taken h.taken in
       record {
         groups = sym h.same ∙ ap (λ (x : Texts). x.group) (sym t) ∙ k.same;
-        values = one_number h.texts.value places value amount h.is_value.units (subst (λ (x : Texts). IsUnits x.value places amount) t k.is_value.units);
-        weights = weight_one h.texts.weight weight size h.is_weight (subst (λ (x : Texts). IsWeight x.weight size) t k.is_weight);
+        values = one_number h.texts.value places value amount h.is_value.0 (subst (λ (x : Texts). IsUnits x.value places amount) t k.is_value.0);
+        weights = weight_one h.texts.weight weight size h.is_weight (subst (λ (x : Texts). IsRowWeight x.weight size) t k.is_weight);
       }
 
   module _ (number : ℕ) where
@@ -78,15 +74,15 @@ module _ (places : ℕ) (columns : DataColumns) (fields : List (List ℕ)) where
     data OwnCase (fault : DataFault) : Type 0 where
       short : IsTooShort columns fields → fault ≡ FieldMissing number → OwnCase fault
       unnamed : (texts : Texts) → AreTexts columns fields texts → (IsName texts.group → ⊥) → fault ≡ NotName number → OwnCase fault
-      valueless : (texts : Texts) → AreNamed columns fields texts → (why : NumFault) → UnitsRead texts.value places (10 ^ 9) (Err why) → fault ≡ number_fault why number → OwnCase fault
-      weightless : (texts : Texts) → AreNamed columns fields texts → (value : ℤ) → IsValue places texts.value value → ((weight : ℕ) → IsWeight texts.weight weight → ⊥) → fault ≡ BadWeight number → OwnCase fault
+      valueless : (texts : Texts) → AreNamed columns fields texts → (why : NumFault) → ValueRead places texts.value (Err why) → fault ≡ value_fault why number → OwnCase fault
+      weightless : (texts : Texts) → AreNamed columns fields texts → (value : ℤ) → IsValue places texts.value value → ((weight : ℕ) → IsRowWeight texts.weight weight → ⊥) → fault ≡ BadWeight number → OwnCase fault
 
     own_case : (fault : DataFault) → OwnFault places columns fields number fault → OwnCase fault
     own_case (FieldMissing n) (e, s) = short s (ap FieldMissing e)
     own_case (NotName n) (e, t, a, denied) = unnamed t a denied (ap NotName e)
-    own_case (NotNumber n) (t, a, (e, denied)) = valueless t a num.NotNumber denied (ap NotNumber e)
-    own_case (TooFine n) (t, a, (e, is, denied)) = valueless t a num.TooFine (is, denied) (ap TooFine e)
-    own_case (TooLarge n) (t, a, (e, z, units, large)) = valueless t a num.TooLarge (z, units, large) (ap TooLarge e)
+    own_case (NotNumber n) (e, (t, a, r)) = valueless t a num.NotNumber r (ap NotNumber e)
+    own_case (TooFine n) (e, (t, a, r)) = valueless t a num.TooFine r (ap TooFine e)
+    own_case (TooLarge n) (e, (t, a, r)) = valueless t a num.TooLarge r (ap TooLarge e)
     own_case (BadWeight n) (e, t, a, (z, is), denied) = weightless t a z is denied (ap BadWeight e)
     own_case NoHeader h = absurd h
     own_case (NoColumn column) h = absurd h
@@ -99,10 +95,10 @@ module _ (places : ℕ) (columns : DataColumns) (fields : List (List ℕ)) where
     named : (t u : Texts) → AreTexts columns fields t → (IsName t.group → ⊥) → AreNamed columns fields u → ⊥
     named t u a denied b = denied (subst (λ (x : Texts). IsName x.group) (texts_one u t b.taken a) b.name)
 
-    valued : (t u : Texts) (why : NumFault) (z : ℤ) → AreTexts columns fields t → AreTexts columns fields u → UnitsRead t.value places (10 ^ 9) (Err why) → IsValue places u.value z → ⊥
+    valued : (t u : Texts) (why : NumFault) (z : ℤ) → AreTexts columns fields t → AreTexts columns fields u → ValueRead places t.value (Err why) → IsValue places u.value z → ⊥
     valued t u why z a b r v =
         let is : IsValue places t.value z = subst (λ (x : Texts). IsValue places x.value z) (texts_one u t b a) v in
-        err_ok why z (Err why) (Ok z) (one_answer t.value places (10 ^ 9) (Err why) (Ok z) r (is.units, is.most)) refl refl
+        err_ok why z (Err why) (Ok z) (one_value places t.value (Err why) (Ok z) r is) refl refl
 
     by_case : (f g : DataFault) → OwnCase f → OwnCase g → f ≡ g
     by_case f g (short s e) (short t q) = e ∙ sym q
@@ -116,8 +112,8 @@ module _ (places : ℕ) (columns : DataColumns) (fields : List (List ℕ)) where
     by_case f g (valueless t a why r e) (short s q) = absurd (not_short t s a.taken)
     by_case f g (valueless t a why r e) (unnamed u b denied q) = absurd (named u t b denied a)
     by_case f g (valueless t a why r e) (valueless u b what p q) =
-        let same = one_answer t.value places (10 ^ 9) (Err why) (Err what) r (subst (λ (x : Texts). UnitsRead x.value places (10 ^ 9) (Err what)) (texts_one u t b.taken a.taken) p) in
-        e ∙ ap (λ (x : NumFault). number_fault x number) (err_same why what (Err why) (Err what) same refl refl) ∙ sym q
+        let same = one_value places t.value (Err why) (Err what) r (subst (λ (x : Texts). ValueRead places x.value (Err what)) (texts_one u t b.taken a.taken) p) in
+        e ∙ ap (λ (x : NumFault). value_fault x number) (err_same why what (Err why) (Err what) same refl refl) ∙ sym q
     by_case f g (valueless t a why r e) (weightless u b z v denied q) = absurd (valued t u why z a.taken b.taken r v)
     by_case f g (weightless t a z v denied e) (short s q) = absurd (not_short t s a.taken)
     by_case f g (weightless t a z v denied e) (unnamed u b not q) = absurd (named u t b not a)
@@ -128,7 +124,7 @@ module _ (places : ℕ) (columns : DataColumns) (fields : List (List ℕ)) where
     not_good f group value weight (short s e) h = not_short h.texts s h.taken
     not_good f group value weight (unnamed t a denied e) h = denied (subst IsName (sym h.same ∙ ap (λ (x : Texts). x.group) (texts_one h.texts t h.taken a)) h.name)
     not_good f group value weight (valueless t a why r e) h = valued t h.texts why value a.taken h.taken r h.is_value
-    not_good f group value weight (weightless t a z v denied e) h = denied weight (subst (λ (x : Texts). IsWeight x.weight weight) (texts_one h.texts t h.taken a.taken) h.is_weight)
+    not_good f group value weight (weightless t a z v denied e) h = denied weight (subst (λ (x : Texts). IsRowWeight x.weight weight) (texts_one h.texts t h.taken a.taken) h.is_weight)
 
     pub own_one : (f g : DataFault) → OwnFault places columns fields number f → OwnFault places columns fields number g → f ≡ g
     own_one f g h k = by_case f g (own_case f h) (own_case g k)

@@ -1,8 +1,9 @@
 -- A data table is read in one way.
 use Rattle.std.proofs.Common.{◌≡◌, ◌+◌, ◌++◌, ◌∙◌, ℕ, zero, suc, List, [], ◌∷◌, Some, Result, Ok, Err, length, slice_get, inl, inr, refl, sym, ap, subst, arith}
 use Rattle.std.specs.List.{AllZip}
+use Rattle.ofit_num.proofs.Partings.{at_one, first_shorter, parted, second_shorter}
 use Rattle.ofit_records.specs.Records.{records_of}
-use Rattle.ofit_study.specs.Kept.{AreNumbered}
+use Rattle.ofit_table.specs.Numbered.{AreNumbered}
 use Rattle.ofit_study.specs.Study.{Observation, Study}
 use Rattle.ofit_study.specs.declared.settings.Settings.{Settings}
 use Rattle.ofit_table.specs.declared.fault.DataFault.{DataFault}
@@ -13,7 +14,7 @@ use Rattle.ofit_table.specs.DataRead.{DataRead, FaultRead, HasHeaderFault, HasRo
 use Rattle.ofit_table.specs.Rows.{AreRows, HasFault, IsRow, IsTooMuch, LimitFault, RowFault}
 use Rattle.ofit_table.proofs.HeaderReadings.{columns_one, header_fault_one, no_header_fault}
 use Rattle.ofit_table.proofs.LimitReadings.{limit_one, no_limit}
-use Rattle.ofit_table.proofs.Partings.{at_one, first_shorter, get-before, heads, not_empty, parted, second_shorter, split, tails}
+use Rattle.ofit_table.proofs.Partings.{get-before, heads, not_empty, split, tails}
 use Rattle.ofit_table.proofs.RecordReadings.{good_one, own_good, own_one}
 
 -- the numbers rise from n on

@@ -1,5 +1,6 @@
 pub mod Columns
 pub mod Stands
+pub mod Numbered
 pub mod Rows
 pub mod Pairs
 pub mod Reading

@@ -1,19 +1,27 @@
 -- What the parts of a reading of a data table or an order file say.
 use Rattle.std.specs.Prelude.{◌≡◌, ◌≢◌, ◌≤◌, ◌+◌, ◌⊎◌, ◌++◌, ◌∷◌, [], ℕ, ℤ, List, Result, Ok, Err, All, Contains, length}
 use Rattle.std.specs.List.{AllZip}
+use Rattle.ofit_num.specs.declared.decimal.NumFault.{NumFault}
+use Rattle.ofit_num.specs.declared.decimal.NumFault.TheVariants as num
 use Rattle.ofit_study.specs.declared.fault.AddFault.{AddFault}
 use Rattle.ofit_study.specs.declared.fault.AddFault.TheVariants as add
 use Rattle.ofit_study.specs.declared.settings.Settings.{Settings}
-use Rattle.ofit_study.specs.Kept.{AreNumbered}
+use Rattle.ofit_table.specs.Numbered.{AreNumbered}
 use Rattle.ofit_study.specs.Study.{GainsRow, Study, most_pairs}
 use Rattle.ofit_table.specs.declared.fault.DataFault.{DataFault}
-use Rattle.ofit_table.specs.declared.fault.DataFault.TheVariants.{TooManyRows, TooHeavy, TooManyGroups, Memory}
+use Rattle.ofit_table.specs.declared.fault.DataFault.TheVariants.{NotNumber, TooFine, TooLarge, TooManyRows, TooHeavy, TooManyGroups, Memory}
 use Rattle.ofit_table.specs.declared.fault.OrderFault.{OrderFault}
 use Rattle.ofit_table.specs.declared.fault.OrderFault.TheVariants as order
 use Rattle.ofit_table.specs.declared.header.DataColumns.{DataColumns}
 use Rattle.ofit_table.specs.declared.header.OrderColumns.{OrderColumns}
 use Rattle.ofit_table.specs.Pairs.{AreDistinct, HasPairFault, IsPair}
 use Rattle.ofit_table.specs.Rows.{AreRows, HasFault, IsGood, IsRow}
+
+-- the fault of a record with this number whose value isn't read
+abbrev pub value_fault : NumFault → ℕ → DataFault
+value_fault num.NotNumber number = NotNumber number
+value_fault num.TooFine number = TooFine number
+value_fault num.TooLarge number = TooLarge number
 
 -- the fault of a record with this number that a study doesn't take
 abbrev pub limit_fault : AddFault → ℕ → DataFault

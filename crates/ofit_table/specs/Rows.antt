@@ -1,8 +1,11 @@
 -- The rows of a data table.
-use Rattle.std.specs.Prelude.{◌≡◌, ◌≢◌, ◌≤◌, ◌<◌, ◌+◌, ◌^◌, ◌⊎◌, ◌++◌, ◌∷◌, ℕ, ℤ, pos, unsigned_abs, List, Option, Some, None, All, length, slice_get, ⊤}
+use Rattle.std.specs.Prelude.{◌≡◌, ◌≢◌, ◌≤◌, ◌<◌, ◌+◌, ◌⊎◌, ◌++◌, ◌∷◌, ℕ, ℤ, List, Option, Some, None, Err, All, length, slice_get, ⊤}
 use Rattle.std.specs.List.{AllZip}
-use Rattle.ofit_num.specs.DecimalText.{IsNumber, IsUnits}
-use Rattle.ofit_study.specs.Kept.{AreNumbered}
+use Rattle.ofit_num.specs.declared.decimal.NumFault.{NumFault}
+use Rattle.ofit_num.specs.declared.decimal.NumFault.TheVariants as num
+use Rattle.ofit_num.specs.declared.limits.TheConstants.{MOST_WEIGHT}
+use Rattle.ofit_study.specs.FieldRead.{IsValue, IsWeight, ValueRead}
+use Rattle.ofit_table.specs.Numbered.{AreNumbered}
 use Rattle.ofit_study.specs.Name.{IsName}
 use Rattle.ofit_study.specs.Study.{Observation, group_names, most_groups, most_rows, total_weight}
 use Rattle.ofit_table.specs.declared.fault.DataFault.{DataFault}
@@ -35,15 +38,10 @@ IsShortOf (Some place) fields = length fields ≤ place
 abbrev pub IsTooShort : DataColumns → List (List ℕ) → Type 0
 IsTooShort columns fields = (length fields ≤ columns.group) ⊎ (length fields ≤ columns.value) ⊎ IsShortOf columns.weight fields
 
--- a value in units, at most 10^9 of them in absolute value
-pub record IsValue (places : ℕ) (text : List ℕ) (value : ℤ) : Type 0 where
-  pub units : IsUnits text places value
-  pub most : unsigned_abs value ≤ 10 ^ 9
-
--- a weight: a whole number from 1 to 10^10 that a decimal spells, and 1 where there is no weight column
-abbrev pub IsWeight : Option (List ℕ) → ℕ → Type 0
-IsWeight None weight = weight ≡ 1
-IsWeight (Some text) weight = IsUnits text 0 (pos weight) × (1 ≤ weight) × (weight ≤ 10 ^ 10)
+-- the weight that its field gives, and 1 where there is no weight column
+abbrev pub IsRowWeight : Option (List ℕ) → ℕ → Type 0
+IsRowWeight None weight = weight ≡ 1
+IsRowWeight (Some text) weight = IsWeight text weight
 
 -- what stands in a record without a fault of its own
 pub record IsGood (places : ℕ) (columns : DataColumns) (fields : List (List ℕ)) (group : List ℕ) (value : ℤ) (weight : ℕ) : Type 0 where
@@ -52,7 +50,7 @@ pub record IsGood (places : ℕ) (columns : DataColumns) (fields : List (List �
   pub same : texts.group ≡ group
   pub name : IsName group
   pub is_value : IsValue places texts.value value
-  pub is_weight : IsWeight texts.weight weight
+  pub is_weight : IsRowWeight texts.weight weight
 
 -- the record's row
 abbrev pub IsRow : ℕ → DataColumns → List (List ℕ) → Observation → Type 0
@@ -63,7 +61,7 @@ pub record AreRows (places : ℕ) (columns : DataColumns) (records : List (List 
   pub each : AllZip (IsRow places columns) records rows
   pub numbered : AreNumbered rows
   pub few : length rows ≤ most_rows
-  pub light : total_weight rows ≤ 10 ^ 10
+  pub light : total_weight rows ≤ MOST_WEIGHT
   pub groups : length (group_names rows) ≤ most_groups
 
 -- the used fields of a record are these, and its group is a name
@@ -71,35 +69,20 @@ pub record AreNamed (columns : DataColumns) (fields : List (List ℕ)) (texts : 
   pub taken : AreTexts columns fields texts
   pub name : IsName texts.group
 
--- why a text gives no value: it isn't a decimal, else it isn't a whole number of units, else that passes 10^9
-abbrev pub ValueFault : ℕ → List ℕ → ℕ → DataFault → Type 0
-ValueFault places text number (NotNumber n) = (n ≡ number) × (IsNumber text → ⊥)
-ValueFault places text number (TooFine n) = (n ≡ number) × IsNumber text × ((value : ℤ) → IsUnits text places value → ⊥)
-ValueFault places text number (TooLarge n) = (n ≡ number) × (value : ℤ) × IsUnits text places value × (10 ^ 9 < unsigned_abs value)
-ValueFault places text number NoHeader = ⊥
-ValueFault places text number (NoColumn column) = ⊥
-ValueFault places text number (ColumnTwice column) = ⊥
-ValueFault places text number (FieldMissing n) = ⊥
-ValueFault places text number (NotName n) = ⊥
-ValueFault places text number (BadWeight n) = ⊥
-ValueFault places text number (TooManyRows n) = ⊥
-ValueFault places text number (TooHeavy n) = ⊥
-ValueFault places text number (TooManyGroups n) = ⊥
-ValueFault places text number Memory = ⊥
-
-abbrev pub HasValueFault : ℕ → DataColumns → List (List ℕ) → ℕ → DataFault → Type 0
-HasValueFault places columns fields number fault = (texts : Texts) × AreNamed columns fields texts × ValueFault places texts.value number fault
+-- the group is a name, and the value isn't read
+abbrev pub HasValueFault : ℕ → DataColumns → List (List ℕ) → NumFault → Type 0
+HasValueFault places columns fields fault = (texts : Texts) × AreNamed columns fields texts × ValueRead places texts.value (Err fault)
 
 -- the first fault of a record with this number alone
 abbrev pub OwnFault : ℕ → DataColumns → List (List ℕ) → ℕ → DataFault → Type 0
 OwnFault places columns fields number (FieldMissing n) = (n ≡ number) × IsTooShort columns fields
 OwnFault places columns fields number (NotName n) = (n ≡ number) × (texts : Texts) × AreTexts columns fields texts × (IsName texts.group → ⊥)
-OwnFault places columns fields number (NotNumber n) = HasValueFault places columns fields number (NotNumber n)
-OwnFault places columns fields number (TooFine n) = HasValueFault places columns fields number (TooFine n)
-OwnFault places columns fields number (TooLarge n) = HasValueFault places columns fields number (TooLarge n)
+OwnFault places columns fields number (NotNumber n) = (n ≡ number) × HasValueFault places columns fields num.NotNumber
+OwnFault places columns fields number (TooFine n) = (n ≡ number) × HasValueFault places columns fields num.TooFine
+OwnFault places columns fields number (TooLarge n) = (n ≡ number) × HasValueFault places columns fields num.TooLarge
 OwnFault places columns fields number (BadWeight n) =
     (n ≡ number) × (texts : Texts) × AreNamed columns fields texts × ((value : ℤ) × IsValue places texts.value value)
-    × ((weight : ℕ) → IsWeight texts.weight weight → ⊥)
+    × ((weight : ℕ) → IsRowWeight texts.weight weight → ⊥)
 OwnFault places columns fields number NoHeader = ⊥
 OwnFault places columns fields number (NoColumn column) = ⊥
 OwnFault places columns fields number (ColumnTwice column) = ⊥
@@ -111,9 +94,9 @@ OwnFault places columns fields number Memory = ⊥
 -- the first limit that a row of this group and weight passes behind these rows
 abbrev pub LimitFault : List Observation → List ℕ → ℕ → ℕ → DataFault → Type 0
 LimitFault before group weight number (TooManyRows n) = (n ≡ number) × (most_rows ≤ length before)
-LimitFault before group weight number (TooHeavy n) = (n ≡ number) × (length before < most_rows) × (10 ^ 10 < total_weight before + weight)
+LimitFault before group weight number (TooHeavy n) = (n ≡ number) × (length before < most_rows) × (MOST_WEIGHT < total_weight before + weight)
 LimitFault before group weight number (TooManyGroups n) =
-    (n ≡ number) × (length before < most_rows) × (total_weight before + weight ≤ 10 ^ 10)
+    (n ≡ number) × (length before < most_rows) × (total_weight before + weight ≤ MOST_WEIGHT)
     × All (λ known. known ≢ group) (group_names before) × (most_groups ≤ length (group_names before))
 LimitFault before group weight number NoHeader = ⊥
 LimitFault before group weight number (NoColumn column) = ⊥

@@ -1,5 +1,6 @@
 ghost use Rattle.std.specs.Prelude.{◌≡◌, ◌≤◌, ◌⊎◌, IfErr, IfOk, OnOk, length};
 ghost use Rattle.csv.specs.Records.{fields_of};
+ghost use Rattle.ofit_num.specs.declared.limits.TheConstants.{LONGEST_FILE};
 ghost use Rattle.ofit_study.specs.Study.{most_pairs, names_of};
 ghost use Rattle.ofit_table.specs.declared.fault.OrderFault.TheVariants.{Memory};
 ghost use Rattle.ofit_table.specs.Pairs.{IsPair, PairFault};
@@ -10,12 +11,10 @@ use crate::fault::OrderFault;
 use crate::header::{OrderColumns, order_columns};
 use crate::pair_set::PairSet;
 use csv::ByteRecord;
+use ofit_num::MOST_PAIRS;
 use ofit_records::{Records, field_of};
 use ofit_study::Study;
 use std::alloc::Global;
-
-/// The most pairs of a study.
-const MOST_PAIRS: usize = 20_000;
 
 /// The places of the groups that a record relates, or the first fault of the record alone.
 fn read_pair(
@@ -52,7 +51,7 @@ fn note_pair(known: &mut PairSet, pair: (u32, u32), number: u32) -> Result<(), O
     if known.has(pair) {
         return Ok(());
     }
-    if known.len() >= MOST_PAIRS {
+    if known.len() >= MOST_PAIRS as usize {
         return Err(OrderFault::TooManyPairs(number));
     }
     match known.add(pair) {
@@ -99,7 +98,7 @@ fn read_known(
 /// [`OrderFault::FieldMissing`], [`OrderFault::UnknownGroup`] and [`OrderFault::TooManyPairs`]. Expected time
 /// linear in the bytes and the study, and the sorting of the pairs.
 pub fn read_pairs(alloc: Global, bytes: &[u8], study: &Study) -> Result<Study, OrderFault>
-    requires { length bytes.now ≤ 33554432 }
+    requires { length bytes.now ≤ LONGEST_FILE }
     ensures { PairsRead bytes.now study.now result }
 {
     let mut records = match Records::new(alloc, bytes) {

@@ -1,19 +1,14 @@
-ghost use Rattle.std.specs.Prelude.{◌≡◌, ◌≤◌, ◌≤ℤ◌, ◌↔◌, ℕ, pos, IsTrue, Some, IfNone, IfSome, IfOk, IfErr, MatchOption, option_copied};
+ghost use Rattle.std.specs.Prelude.{◌≡◌, ◌≤◌, ℕ, IfNone, IfSome, IfOk, IfErr, MatchOption, option_copied};
 ghost use Rattle.csv.specs.Records.{fields_of};
-ghost use Rattle.ofit_table.specs.Rows.{AreTexts, IsTooShort, IsValue, IsWeight, IsGood, ValueFault, OwnFault};
+ghost use Rattle.ofit_table.specs.Reading.{value_fault};
+ghost use Rattle.ofit_table.specs.Rows.{AreTexts, IsTooShort, IsRowWeight, IsGood, OwnFault};
 
 use crate::fault::DataFault;
 use crate::header::DataColumns;
 use csv::ByteRecord;
-use ofit_num::{NumFault, read_decimal};
+use ofit_num::NumFault;
 use ofit_records::field_of;
-use ofit_study::is_name;
-
-/// The greatest value, in units.
-const MOST_UNITS: i64 = 1_000_000_000;
-
-/// The greatest weight.
-const MOST_WEIGHT: i64 = 10_000_000_000;
+use ofit_study::{is_name, read_value, read_weight};
 
 /// The fields of a record that are used.
 #[derive(Clone, Copy)]
@@ -59,49 +54,26 @@ fn used_fields(row: &ByteRecord, columns: DataColumns) -> Option<Fields<'_>>
     })
 }
 
-/// The value that a text gives, in units of 10^(-places).
-fn value_of(text: &[u8], places: u32, number: u32) -> Result<i64, DataFault>
-    requires { places ≤ 6 }
-    ensures ok { IfOk result (λ value. IsValue places text.now value) }
-    ensures err { IfErr result (λ fault. ValueFault places text.now number fault) }
+/// The fault of the record with this number whose value isn't read.
+fn value_fault(fault: NumFault, number: u32) -> DataFault
+    ensures { result ≡ value_fault fault number }
 {
-    match read_decimal(text, places, MOST_UNITS) {
-        Ok(value) => Ok(value),
-        Err(NumFault::NotNumber) => Err(DataFault::NotNumber(number)),
-        Err(NumFault::TooFine) => Err(DataFault::TooFine(number)),
-        Err(NumFault::TooLarge) => Err(DataFault::TooLarge(number)),
-    }
-}
-
-/// Whether a number is at least 1.
-fn is_positive(number: i64) -> bool
-    ensures { IsTrue result ↔ (pos 1 ≤ℤ number) }
-{
-    number >= 1
-}
-
-/// The weight that a text gives.
-fn weight_in(text: &[u8]) -> Option<u64>
-    ensures { MatchOption result ((weight : ℕ) → IsWeight (Some text.now) weight → ⊥) (λ weight. IsWeight (Some text.now) weight) }
-{
-    match read_decimal(text, 0, MOST_WEIGHT) {
-        Ok(weight) => {
-            if is_positive(weight) {
-                Some(weight as u64)
-            } else {
-                None
-            }
-        }
-        Err(_) => None,
+    match fault {
+        NumFault::NotNumber => DataFault::NotNumber(number),
+        NumFault::TooFine => DataFault::TooFine(number),
+        NumFault::TooLarge => DataFault::TooLarge(number),
     }
 }
 
 /// The weight of a row: that which its field gives, and 1 where there is no such column.
 fn weight_of(text: Option<&[u8]>) -> Option<u64>
-    ensures { MatchOption result ((weight : ℕ) → IsWeight (option_copied text.entry) weight → ⊥) (λ weight. IsWeight (option_copied text.entry) weight) }
+    ensures { MatchOption result ((weight : ℕ) → IsRowWeight (option_copied text.entry) weight → ⊥) (λ weight. IsRowWeight (option_copied text.entry) weight) }
 {
     match text {
-        Some(text) => weight_in(text),
+        Some(text) => match read_weight(text) {
+            Ok(weight) => Some(weight),
+            Err(_) => None,
+        },
         None => Some(1),
     }
 }
@@ -123,9 +95,9 @@ pub(crate) fn read_row(
     if !is_name(fields.group) {
         return Err(DataFault::NotName(number));
     }
-    let value = match value_of(fields.value, places, number) {
+    let value = match read_value(fields.value, places) {
         Ok(value) => value,
-        Err(fault) => return Err(fault),
+        Err(fault) => return Err(value_fault(fault, number)),
     };
     match weight_of(fields.weight) {
         Some(weight) => Ok(RowParts {

@@ -1,6 +1,7 @@
 ghost use Rattle.std.specs.Prelude.{◌≡◌, ◌≤◌, ◌<◌, ◌++◌, IfOk, Ok, Err, MatchResult, OnOk};
+ghost use Rattle.ofit_num.specs.Pairs.{chain_pairs, falling, fanned, rising_to, tree_pairs, umbrella_pairs};
 ghost use Rattle.ofit_study.specs.Study.{IsValid, names_of};
-ghost use Rattle.ofit_table.specs.PatternRead.{ArePatternPairs, PatternRead, chain_pairs, falling, fanned, rising_to, tree_pairs, umbrella_pairs};
+ghost use Rattle.ofit_table.specs.PatternRead.{ArePatternPairs, PatternRead};
 
 use crate::fault::OrderFault;
 use ofit_study::{Pattern, Study};

@@ -1,28 +1,33 @@
 -- How a counted fit stands within its components.
 use Rattle.std.proofs.Common.{ℕ, ◌≡◌, ◌+◌, ◌-◌, ◌≤◌, arith}
 use Rattle.ofit_num.specs.Tally.{Counts}
-use Rattle.ofit_study.specs.Study.{Study, problem_stated}
-use Rattle.ofit_fit.specs.Counted.{HasComponentCount}
-use Rattle.ofit_fit.proofs.Fitted.{one_count}
-use Rattle.ofit_top.specs.Counting.{IsCounted, CountsWithin}
+use Rattle.ofit_input.specs.declared.ready.Ready.{Ready}
+use Rattle.ofit_top.specs.Counting.{CountsWithin}
+use Rattle.ofit_top.specs.Steps.{CountsJob}
+use Rattle.ofit_top.specs.Job.{HasFits}
+use Rattle.ofit_top.proofs.OneEnd.{one_fits}
 
--- a fit that was counted whole counts no more than its components
-pub whole_within : (s : Study) (before after : Counts) (n : ℕ) → HasComponentCount (problem_stated s) n → IsCounted n before after → CountsWithin s before after
-whole_within s before after n h counted = record {
+-- what a job counts that gave a text,
+pub job_counts : (ready : Ready) (before after : Counts) (n : ℕ) → HasFits ready n → after.fits ≡ before.fits + n → before.cuts ≤ after.cuts → after.cuts + before.fits ≤ before.cuts + after.fits → CountsJob ready before after
+job_counts ready before after n has fits grown fewer = record {
   fits = n;
-  counted = counted;
-  most = λ m k. omega (arith, one_count (problem_stated s) n m h k);
+  has = has;
+  counted = record { fits_are = fits; least_cuts = grown; most_cuts = omega (arith, fits, fewer) };
 }
 
--- what a fit counts that gave values,
-pub fits_counted : (n : ℕ) (before after : Counts) → after.fits ≡ before.fits + n → before.cuts ≤ after.cuts → after.cuts + before.fits ≤ before.cuts + after.fits → IsCounted n before after
-fits_counted n before after fits grown fewer = record { fits_are = fits; least_cuts = grown; most_cuts = omega (arith, fits, fewer) }
+-- which is within what it may count,
+pub whole_within : (ready : Ready) (before after : Counts) → CountsJob ready before after → CountsWithin ready before after
+whole_within ready before after counts = record {
+  fits = counts.fits;
+  counted = counts.counted;
+  most = λ m k. omega (arith, one_fits ready counts.fits m counts.has k);
+}
 
 -- and one for which memory was wanting
-pub fits_within : (s : Study) (before after : Counts) → before.fits ≤ after.fits → before.cuts ≤ after.cuts → after.cuts + before.fits ≤ before.cuts + after.fits
-    → ((n : ℕ) → HasComponentCount (problem_stated s) n → after.fits ≤ before.fits + n) → CountsWithin s before after
-fits_within s before after grown cuts fewer most = record {
+pub job_within : (ready : Ready) (before after : Counts) → before.fits ≤ after.fits → before.cuts ≤ after.cuts → after.cuts + before.fits ≤ before.cuts + after.fits
+    → ((n : ℕ) → HasFits ready n → after.fits ≤ before.fits + n) → CountsWithin ready before after
+job_within ready before after grown cuts fewer most = record {
   fits = after.fits - before.fits;
-  counted = fits_counted (after.fits - before.fits) before after (omega (arith, grown)) cuts fewer;
+  counted = record { fits_are = omega (arith, grown); least_cuts = cuts; most_cuts = omega (arith, grown, fewer) };
   most = λ n h. omega (arith, most n h, grown);
 }

@@ -1,9 +1,9 @@
 pub mod Pieces
-pub mod Counted
-pub mod Endings
-pub mod OnErr
-pub mod Results
-pub mod OneFile
-pub mod OneGiven
 pub mod OneEnd
 pub mod OneRun
+pub mod Counted
+pub mod Endings
+pub mod Accepted
+pub mod OnErr
+pub mod Few
+pub mod Verified

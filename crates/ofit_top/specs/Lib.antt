@@ -1,5 +1,10 @@
-pub mod Jobs
+pub mod Fit
+pub mod Report
+pub mod Verify
+pub mod Job
 pub mod Counting
+pub mod State
 pub mod Run
-pub mod Verdicts
-pub mod Accepted
+pub mod Done
+pub mod Beside
+pub mod Steps

@@ -1,97 +1,94 @@
 -- What a run answers, writes and counts.
-use Rattle.std.specs.Prelude.{◌≡◌, ◌⊎◌, ⊤, ℕ, List, [], map, Option, Ok, Err, String, string_bytes}
+use Rattle.std.specs.Prelude.{◌≡◌, ◌⊎◌, ◌<◌, ℕ, List, [], length, map, Option, Result, Ok, Err, String, string_bytes}
 use Rattle.std.specs.declared.alloc.Global.{Global}
 use Rattle.ofit_outside.specs.Faults.{Rose}
 use Rattle.ofit_outside.specs.Folder.{Held}
 use Rattle.ofit_outside.specs.Sink.{with_more, GainsPrefix}
-use Rattle.ofit_num.specs.Tally.{Counts}
 use Rattle.ofit_words.specs.declared.job.Job.{Job}
+use Rattle.ofit_words.specs.declared.fault.WordFault.{WordFault}
 use Rattle.ofit_words.specs.Words.{WordsRead}
+use Rattle.ofit_input.specs.declared.ready.Ready.{Ready}
+use Rattle.ofit_input.specs.declared.refusal.Refusal.{Refusal}
+use Rattle.ofit_input.specs.declared.refusal.Refusal.TheVariants.{NotBuilt}
+use Rattle.ofit_input.specs.Ready.{ReadyGives}
 use Rattle.ofit_answer.specs.declared.answer.Answer.{Answer}
-use Rattle.ofit_answer.specs.declared.answer.Answer.TheVariants.{Done, Fails, Words, Refused, ReadFault, WriteFault, Memory}
-use Rattle.ofit_top.specs.Jobs.{JobGives, IsRefused, Fetches}
-use Rattle.ofit_top.specs.Counting.{IsCounted, MayCount}
+use Rattle.ofit_answer.specs.declared.answer.Answer.TheVariants.{Words, Refused, ReadFault, WriteFault, Memory}
+use Rattle.ofit_top.specs.Job.{JobGives, HasFits}
+use Rattle.ofit_top.specs.Counting.{IsCounted, CountsWithin}
+use Rattle.ofit_top.specs.State.{State}
 
 -- the bytes of each word
 abbrev pub texts : List (String Global) → List (List ℕ)
 texts words = map string_bytes words
 
--- a job that the words ask for gives this
-abbrev pub AskedGives : List (List ℕ) → Option Held → Answer → List ℕ → ℕ → Type 0
-AskedGives words held answer text fits = (job : Job) × WordsRead words (Ok job) × JobGives held job answer text fits
+-- the answer goes without a text and without a fit
+pub record IsBare (answer is : Answer) (text : List ℕ) (fits : ℕ) : Type 0 where
+  pub answered : answer ≡ is
+  pub empty : text ≡ []
+  pub none : fits ≡ 0
 
--- What a run without faults of the folder or the sinks answers, writes and counts: the fault of its words, or what its job gives.
-abbrev pub RunGives : List (List ℕ) → Option Held → Answer → List ℕ → ℕ → Type 0
-RunGives words held (Words fault) text fits = WordsRead words (Err fault) × (text ≡ []) × (fits ≡ 0)
-RunGives words held Done text fits = AskedGives words held Done text fits
-RunGives words held (Fails said) text fits = AskedGives words held (Fails said) text fits
-RunGives words held (Refused refusal) text fits = ((job : Job) × WordsRead words (Ok job) × IsRefused held job refusal) × (text ≡ []) × (fits ≡ 0)
-RunGives words held ReadFault text fits = ⊥
-RunGives words held WriteFault text fits = ⊥
-RunGives words held Memory text fits = ⊥
+-- what the files give is refused, or the job is done with it
+abbrev pub FilesGive : Result Ready Refusal → Answer → List ℕ → ℕ → Type 0
+FilesGive (Err refusal) answer text fits = IsBare answer (Refused refusal) text fits
+FilesGive (Ok ready) answer text fits = JobGives ready answer text × HasFits ready fits
 
--- the whole text came after what was there, and its fits are counted
-pub record Wrote (words : List (List ℕ)) (held : Option Held) (before after : Option (List ℕ)) (old new : Counts) (answer : Answer) : Type 0 where
+-- the words have a fault, or the files of their job are read
+abbrev pub WordsGive : Option Held → Result Job WordFault → Answer → List ℕ → ℕ → Type 0
+WordsGive held (Err fault) answer text fits = IsBare answer (Words fault) text fits
+WordsGive held (Ok job) answer text fits = (given : Result Ready Refusal) × ReadyGives held job given × FilesGive given answer text fits
+
+-- What a run without faults of the folder or the output answers, writes and counts: first the words are read, then the files, and then the job is done.
+pub record RunGives (words : List (List ℕ)) (held : Option Held) (answer : Answer) (text : List ℕ) (fits : ℕ) : Type 0 where
+  pub read : Result Job WordFault
+  pub reads : WordsRead words read
+  pub gives : WordsGive held read answer text fits
+
+-- the whole text of the answer came after what was there
+pub record Wrote (words : List (List ℕ)) (before after : State) (answer : Answer) (fits : ℕ) : Type 0 where
   pub text : List ℕ
-  pub fits : ℕ
-  pub gives : RunGives words held answer text fits
-  pub put : after ≡ with_more before text
-  pub counts : IsCounted fits old new
+  pub gives : RunGives words before.held answer text fits
+  pub put : after.written ≡ with_more before.written text
 
--- the answer goes with an output
-abbrev pub IsOutput : Answer → Type 0
-IsOutput Done = ⊤
-IsOutput (Fails said) = ⊤
-IsOutput (Words fault) = ⊥
-IsOutput (Refused refusal) = ⊥
-IsOutput ReadFault = ⊥
-IsOutput WriteFault = ⊥
-IsOutput Memory = ⊥
-
--- a first part of an output's text came after what was there, and its fits are counted
-pub record WroteInPart (words : List (List ℕ)) (held : Option Held) (before after : Option (List ℕ)) (old new : Counts) : Type 0 where
+-- a first part of the text of an answer came after what was there
+pub record WroteInPart (words : List (List ℕ)) (before after : State) (fits : ℕ) : Type 0 where
   pub answer : Answer
-  pub output : IsOutput answer
   pub text : List ℕ
-  pub fits : ℕ
-  pub gives : RunGives words held answer text fits
-  pub put : GainsPrefix before after text
-  pub counts : IsCounted fits old new
+  pub some : 0 < length text
+  pub gives : RunGives words before.held answer text fits
+  pub put : GainsPrefix before.written after.written text
 
--- the words ask for a job that fetches files
-abbrev pub AskToFetch : List (List ℕ) → Type 0
-AskToFetch words = (job : Job) × WordsRead words (Ok job) × Fetches job
+-- the words ask for a job that is built, so that its files are read
+pub record AskToRead (words : List (List ℕ)) (held : Option Held) : Type 0 where
+  pub job : Job
+  pub read : WordsRead words (Ok job)
+  pub built : ReadyGives held job (Err NotBuilt) → ⊥
 
--- what is counted where memory was wanting
-abbrev pub MayHaveCounted : List (List ℕ) → Option Held → Counts → Counts → Type 0
-MayHaveCounted words held old new = (new ≡ old) ⊎ ((job : Job) × WordsRead words (Ok job) × MayCount held job old new)
+-- the words ask for a job whose files give this
+pub record AskFor (words : List (List ℕ)) (held : Option Held) (ready : Ready) : Type 0 where
+  pub job : Job
+  pub read : WordsRead words (Ok job)
+  pub given : ReadyGives held job (Ok ready)
 
--- what a run writes to out and counts: the whole text, a first part of it, or nothing
-abbrev pub Writes : List (List ℕ) → Option Held → Option (List ℕ) → Option (List ℕ) → Counts → Counts → Answer → Type 0
-Writes words held before after old new Done = Wrote words held before after old new Done
-Writes words held before after old new (Fails said) = Wrote words held before after old new (Fails said)
-Writes words held before after old new (Words fault) = RunGives words held (Words fault) [] 0 × (after ≡ before) × (new ≡ old)
-Writes words held before after old new (Refused refusal) = RunGives words held (Refused refusal) [] 0 × (after ≡ before) × (new ≡ old)
-Writes words held before after old new ReadFault = AskToFetch words × (after ≡ before) × (new ≡ old)
-Writes words held before after old new WriteFault = WroteInPart words held before after old new
-Writes words held before after old new Memory = (after ≡ before) × MayHaveCounted words held old new
+-- What is written: the whole text of the answer. Where the output fails it is a first part; where the folder fails or memory is wanting, nothing.
+abbrev pub Writes : List (List ℕ) → State → State → Answer → Type 0
+Writes words before after ReadFault = AskToRead words before.held × (after.written ≡ before.written)
+Writes words before after Memory = after.written ≡ before.written
+Writes words before after WriteFault = (fits : ℕ) × WroteInPart words before after fits
+Writes words before after answer = (fits : ℕ) × Wrote words before after answer fits
 
--- the folder's count of faults rose at ReadFault alone
-abbrev pub CountsRead : ℕ → ℕ → Answer → Type 0
-CountsRead before after ReadFault = Rose before after
-CountsRead before after Done = after ≡ before
-CountsRead before after (Fails said) = after ≡ before
-CountsRead before after (Words fault) = after ≡ before
-CountsRead before after (Refused refusal) = after ≡ before
-CountsRead before after WriteFault = after ≡ before
-CountsRead before after Memory = after ≡ before
+-- What is counted: the fits of the job whose text came, whole or in part. Where memory is wanting it is at most those of a job that was ready; where the folder fails, nothing.
+abbrev pub CountsFits : List (List ℕ) → State → State → Answer → Type 0
+CountsFits words before after ReadFault = after.counts ≡ before.counts
+CountsFits words before after Memory = (after.counts ≡ before.counts) ⊎ ((ready : Ready) × AskFor words before.held ready × CountsWithin ready before.counts after.counts)
+CountsFits words before after WriteFault = (fits : ℕ) × WroteInPart words before after fits × IsCounted fits before.counts after.counts
+CountsFits words before after answer = (fits : ℕ) × Wrote words before after answer fits × IsCounted fits before.counts after.counts
 
--- and out's at WriteFault alone
-abbrev pub CountsWrite : ℕ → ℕ → Answer → Type 0
-CountsWrite before after WriteFault = Rose before after
-CountsWrite before after Done = after ≡ before
-CountsWrite before after (Fails said) = after ≡ before
-CountsWrite before after (Words fault) = after ≡ before
-CountsWrite before after (Refused refusal) = after ≡ before
-CountsWrite before after ReadFault = after ≡ before
-CountsWrite before after Memory = after ≡ before
+-- the folder's faults rose where the answer is a read fault, and stayed elsewhere
+abbrev pub CountsRead : State → State → Answer → Type 0
+CountsRead before after ReadFault = Rose before.read_faults after.read_faults
+CountsRead before after answer = after.read_faults ≡ before.read_faults
+
+-- and those of the output where it is a write fault
+abbrev pub CountsWrite : State → State → Answer → Type 0
+CountsWrite before after WriteFault = Rose before.write_faults after.write_faults
+CountsWrite before after answer = after.write_faults ≡ before.write_faults

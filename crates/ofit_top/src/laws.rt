@@ -1,52 +1,67 @@
-ghost use Rattle.std.specs.Prelude.{◌≡◌, ◌+◌, List, ℕ, Option, Some, Result, Ok};
+ghost use Rattle.std.specs.Prelude.{◌≡◌, ◌⊎◌, List, ℕ, Some, Ok, Err, codes};
+ghost use Rattle.ofit_outside.specs.Faults.{Rose};
 ghost use Rattle.ofit_outside.specs.Folder.{Held};
-ghost use Rattle.ofit_num.specs.Sheet as num;
-ghost use Rattle.ofit_num.specs.Tally.{Counts};
-ghost use Rattle.ofit_study.specs.declared.settings.Settings.{Settings};
-ghost use Rattle.ofit_study.specs.Study.{Study};
 ghost use Rattle.ofit_words.specs.declared.job.Inputs.{Inputs};
 ghost use Rattle.ofit_words.specs.declared.job.Job.{Job};
+ghost use Rattle.ofit_words.specs.declared.job.Job.TheVariants as job;
 ghost use Rattle.ofit_words.specs.Words.{WordsRead};
-ghost use Rattle.ofit_answer.specs.declared.answer.Answer.{Answer};
-ghost use Rattle.ofit_answer.specs.declared.answer.Refusal.{Refusal};
-ghost use Rattle.ofit_input.specs.Given.{StudyGives, SheetGives};
-ghost use Rattle.ofit_top.specs.Accepted.{IsNoRefusal};
-ghost use Rattle.ofit_top.specs.Jobs.{IsRefused};
-ghost use Rattle.ofit_top.specs.Run.{RunGives, Writes};
+ghost use Rattle.ofit_input.specs.declared.refusal.Refusal.{Refusal};
+ghost use Rattle.ofit_input.specs.Ready.{ReadyGives};
+ghost use Rattle.ofit_answer.specs.declared.answer.Answer.{Answer as Answered};
+ghost use Rattle.ofit_answer.specs.declared.answer.Answer.TheVariants.{Done, Memory};
+ghost use Rattle.ofit_top.specs.Beside.{HoldsBesides, IsInput};
+ghost use Rattle.ofit_top.specs.Done.{IsDone};
+ghost use Rattle.ofit_top.specs.State.{State};
+ghost use Rattle.ofit_top.specs.Run.{RunGives, Writes, CountsRead, CountsWrite};
 
-use ofit_sheet::sheets_are_read_in_one_way;
-use ofit_table::{
-    orders_are_read_in_one_way, patterns_are_read_in_one_way, tables_are_read_in_one_way,
-};
+use ofit_input::inputs_are_given_in_one_way;
+use ofit_num::least_best_values_are_unique;
+use ofit_report::reports_are_told_in_one_way;
 use ofit_words::words_have_one_reading;
 
-/// No run is refused without a cause: where the words are a job of which nothing is a refusal, the run
-/// is done or tells its verdict, unless the folder or the output fails or memory is wanting.
+/// No order, size or bound within the limits is too hard: where the words are a job of which no file is
+/// refused, and neither folder nor output fails, the run gives what the job gives, unless memory is
+/// wanting.
 pub fn accepted_inputs_are_answered()
-    ensures { (words : List (List ℕ)) (held : Option Held) (job : Job) (before after : Option (List ℕ)) (old new : Counts) (answer : Answer)
-        → WordsRead words (Ok job) → ((refusal : Refusal) → IsRefused held job refusal → ⊥)
-        → Writes words held before after old new answer → IsNoRefusal answer }
+    ensures { (words : List (List ℕ)) (job : Job) (before after : State) (answer : Answered)
+        → WordsRead words (Ok job) → ((refusal : Refusal) → ReadyGives before.held job (Err refusal) → ⊥)
+        → (Rose before.read_faults after.read_faults → ⊥) → (Rose before.write_faults after.write_faults → ⊥)
+        → Writes words before after answer → CountsRead before after answer → CountsWrite before after answer
+        → (answer ≡ Memory) ⊎ IsDone job before after answer }
 {
     words_have_one_reading();
 }
 
-/// The study and the sheet that a told folder's files give are given in one way: one study or sheet, or one
-/// first refusal.
-pub fn inputs_are_given_in_one_way()
-    ensures study { (h : Held) (inputs : Inputs) (a b : Result Study Refusal) → StudyGives (Some h) inputs a → StudyGives (Some h) inputs b → a ≡ b }
-    ensures sheet { (h : Held) (name : List ℕ) (study : Study) (a b : Result (num.Sheet Settings) Refusal) → SheetGives (Some h) name study a → SheetGives (Some h) name study b → a ≡ b }
+/// What is printed is verified: where a fit is done over a told folder, verifying with the same data,
+/// order and settings, over that folder with the printed text under a further name, is done, and ends in
+/// no other way.
+pub fn fits_are_verified()
+    ensures passes { (words other : List (List ℕ)) (inputs : Inputs) (name text : List ℕ) (fits : ℕ) (h after : Held)
+        → WordsRead words (Ok (job.Fit inputs)) → RunGives words (Some h) Done text fits
+        → (IsInput inputs name → ⊥) → HoldsBesides h name text after → WordsRead other (Ok (job.Verify inputs name))
+        → RunGives other (Some after) Done (codes "passes\n") 0 }
+    ensures nothing_else { (words other : List (List ℕ)) (inputs : Inputs) (name text : List ℕ) (fits : ℕ) (h after : Held)
+        → WordsRead words (Ok (job.Fit inputs)) → RunGives words (Some h) Done text fits
+        → (IsInput inputs name → ⊥) → HoldsBesides h name text after → WordsRead other (Ok (job.Verify inputs name))
+        → (answer : Answered) (line : List ℕ) (n : ℕ) → RunGives other (Some after) answer line n → answer ≡ Done }
 {
-    tables_are_read_in_one_way();
-    orders_are_read_in_one_way();
-    patterns_are_read_in_one_way();
-    sheets_are_read_in_one_way();
+    words_have_one_reading();
+    runs_end_in_one_way();
 }
 
 /// Over a told folder, and without faults, a run ends in one way: words and files determine its answer
-/// and its count of fits.
+/// and its count of fits, and its text too, but for the flows of a fit's sheet.
 pub fn runs_end_in_one_way()
-    ensures { (words : List (List ℕ)) (h : Held) (a b : Answer) (t u : List ℕ) (n m : ℕ) → RunGives words (Some h) a t n → RunGives words (Some h) b u m → (a ≡ b) × (n ≡ m) }
+    ensures answer { (words : List (List ℕ)) (h : Held) (a b : Answered) (t u : List ℕ) (n m : ℕ)
+        → RunGives words (Some h) a t n → RunGives words (Some h) b u m → a ≡ b }
+    ensures fits { (words : List (List ℕ)) (h : Held) (a b : Answered) (t u : List ℕ) (n m : ℕ)
+        → RunGives words (Some h) a t n → RunGives words (Some h) b u m → n ≡ m }
+    ensures text { (words : List (List ℕ)) (h : Held) (a b : Answered) (t u : List ℕ) (n m : ℕ)
+        → RunGives words (Some h) a t n → RunGives words (Some h) b u m
+        → ((inputs : Inputs) → WordsRead words (Ok (job.Fit inputs)) → ⊥) → t ≡ u }
 {
     words_have_one_reading();
     inputs_are_given_in_one_way();
+    least_best_values_are_unique();
+    reports_are_told_in_one_way();
 }

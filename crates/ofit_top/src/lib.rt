@@ -11,6 +11,7 @@ mod report;
 mod top;
 mod verify;
 
-pub use laws::{accepted_inputs_are_answered, inputs_are_given_in_one_way, runs_end_in_one_way};
-pub use ofit_answer::{Answer, Refusal, Which, status};
+pub use laws::{accepted_inputs_are_answered, fits_are_verified, runs_end_in_one_way};
+pub use ofit_answer::{Answer, status};
+pub use ofit_input::{Refusal, Which};
 pub use top::run;

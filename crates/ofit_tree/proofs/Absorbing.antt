@@ -17,17 +17,20 @@ use Rattle.ofit_loss.proofs.ProblemLaws.{groups_fittable, problem_falling}
 use Rattle.ofit_tree.specs.declared.direction.Direction.{Direction}
 use Rattle.ofit_tree.specs.declared.block.Block.{Block}
 use Rattle.ofit_tree.specs.declared.entry.Entry.{Entry}
-use Rattle.ofit_tree.specs.declared.forest.Slot.{Slot}
-use Rattle.ofit_tree.specs.declared.forest.Slot.TheVariants.{Open, Settled, Joined}
+use Rattle.ofit_tree.specs.declared.slot.Slot.{Slot}
+use Rattle.ofit_tree.specs.declared.slot.Slot.TheVariants.{Open, Settled, Joined}
 use Rattle.ofit_tree.specs.Entry.{IsInOrder, rank_of}
 use Rattle.ofit_tree.specs.Tree.{IsParent, IsRootedTree, tree_pairs, tree_problem}
-use Rattle.ofit_tree.specs.Level.{IsLevel, IsTreeBlock}
+use Rattle.ofit_num.specs.Level.{IsLevel}
+use Rattle.ofit_tree.specs.Level.{IsTreeBlock}
 use Rattle.ofit_tree.specs.Forest.{numbered, IsPoolOfPiece, IsOpenBlock, IsForest, IsFirst}
-use Rattle.ofit_tree.proofs.Slots.{contains_first, is_number, has_number, same_test}
 use Rattle.ofit_tree.proofs.Pairs.{child_below, parent_below, depth, deeper, Hangs, top_highest, hangs_together}
 use Rattle.ofit_tree.proofs.Pools.{pool_value, pool_costs, both_fittable, both_some, both_pools}
 use Rattle.ofit_tree.proofs.TreeBlocks.{tree_limit, tree_den, tree_within, tree_absorbed, in_order_trans}
 use Rattle.ofit_tree.proofs.Closing.{same_open, open_settled, open_joined, settled_joined, first_ranked}
+use Rattle.ofit_num.proofs.Levels.{is_label, has_label}
+use Rattle.ofit_num.proofs.Division.{same_test}
+use Rattle.ofit_num.proofs.Members.{cons_cases}
 
 -- the block with its groups under another name, and a limit nearer to its value
 moved_block : {P : Type 0} (d : Direction) (IsPoolOf : P → List Row → Type 0) (m : Meaning) (strict : Bool) (groups : RowLists) (parents : List (Option ℕ)) (law : HasFallingSpans m (tree_problem d groups parents)) (piece piece' : ℕ → Bool) (limit c : Fraction) (b : Block P)
@@ -67,7 +70,7 @@ module _ {P : Type 0} (d : Direction) (IsPoolOf : P → List Row → Type 0) (m 
   two_blocks e = omega (
     arith,
     deeper parents tree child.top p up,
-    top_highest parents tree (numbered labels entry.block) child.top (hangs_of (numbered labels entry.block) child hc) (depth parents tree p) p (omega arith) lp (has_number labels entry.block p (label ∙ e)),
+    top_highest parents tree (numbered labels entry.block) child.top (hangs_of (numbered labels entry.block) child hc) (depth parents tree p) p (omega arith) lp (has_label (slice_index labels) entry.block p (label ∙ e)),
   )
 
   pub child_pool : IsPoolOfPiece IsPoolOf m (tree_problem d groups parents) (numbered labels entry.block) child.pool
@@ -81,7 +84,7 @@ module _ {P : Type 0} (d : Direction) (IsPoolOf : P → List Row → Type 0) (m 
   union g = numbered labels j g || numbered labels entry.block g
 
   apart : (g : ℕ) → g < length groups → numbered labels j g ≡ true → numbered labels entry.block g ≡ false
-  apart g l u = false_from_ne_true _ (λ v. two_blocks (sym (is_number labels j g u) ∙ is_number labels entry.block g v))
+  apart g l u = false_from_ne_true _ (λ v. two_blocks (sym (is_label (slice_index labels) j g u) ∙ is_label (slice_index labels) entry.block g v))
 
   pub rows_fittable : AreFittable (hu.pool.rows ++ hc.pool.rows)
   unfolding union
@@ -128,12 +131,12 @@ module _ {P : Type 0} (d : Direction) (IsPoolOf : P → List Row → Type 0) (m 
       | inl e ↦ given g l e
       | inr out ↦ kept g (λ _ e. out e) ∙ elim (or_cases _ _ u) [
         | inl v ↦ elim which [
-          | inl w ↦ is_number labels j g v ∙ sym w.0
-          | inr w ↦ absurd (out (is_number labels j g v ∙ sym w.1))
+          | inl w ↦ is_label (slice_index labels) j g v ∙ sym w.0
+          | inr w ↦ absurd (out (is_label (slice_index labels) j g v ∙ sym w.1))
         ]
         | inr v ↦ elim which [
-          | inl w ↦ absurd (out (is_number labels entry.block g v ∙ sym w.1))
-          | inr w ↦ is_number labels entry.block g v ∙ sym w.0
+          | inl w ↦ absurd (out (is_label (slice_index labels) entry.block g v ∙ sym w.1))
+          | inr w ↦ is_label (slice_index labels) entry.block g v ∙ sym w.0
         ]
       ]
     ]
@@ -141,23 +144,23 @@ module _ {P : Type 0} (d : Direction) (IsPoolOf : P → List Row → Type 0) (m 
     into_union : (g : ℕ) → g < length groups → slice_index labels' g ≡ number → (numbered labels j g || numbered labels entry.block g) ≡ true
     into_union g l u = elim (cases_eq (slice_index labels g) moved) [
       | inl e ↦ elim which [
-        | inl w ↦ or_right (numbered labels j g) (numbered labels entry.block g) (has_number labels entry.block g (e ∙ w.1))
-        | inr w ↦ or_left (numbered labels j g) (numbered labels entry.block g) (has_number labels j g (e ∙ w.1))
+        | inl w ↦ or_right (numbered labels j g) (numbered labels entry.block g) (has_label (slice_index labels) entry.block g (e ∙ w.1))
+        | inr w ↦ or_left (numbered labels j g) (numbered labels entry.block g) (has_label (slice_index labels) j g (e ∙ w.1))
       ]
       | inr out ↦ elim which [
-        | inl w ↦ or_left (numbered labels j g) (numbered labels entry.block g) (has_number labels j g (sym (kept g (λ _ e. out e)) ∙ u ∙ w.0))
-        | inr w ↦ or_right (numbered labels j g) (numbered labels entry.block g) (has_number labels entry.block g (sym (kept g (λ _ e. out e)) ∙ u ∙ w.0))
+        | inl w ↦ or_left (numbered labels j g) (numbered labels entry.block g) (has_label (slice_index labels) j g (sym (kept g (λ _ e. out e)) ∙ u ∙ w.0))
+        | inr w ↦ or_right (numbered labels j g) (numbered labels entry.block g) (has_label (slice_index labels) entry.block g (sym (kept g (λ _ e. out e)) ∙ u ∙ w.0))
       ]
     ]
 
     parts : (g : ℕ) → g < length groups → numbered labels' number g ≡ (numbered labels j g || numbered labels entry.block g)
-    parts g l = same_test _ _ (λ u. into_union g l (is_number labels' number g u)) (λ u. has_number labels' number g (from_union g l u))
+    parts g l = same_test _ _ (λ u. into_union g l (is_label (slice_index labels') number g u)) (λ u. has_label (slice_index labels') number g (from_union g l u))
 
     -- the groups of any other block stay
     same_group : (i g : ℕ) → (i ≡ number → ⊥) → (i ≡ moved → ⊥) → numbered labels i g ≡ numbered labels' i g
     same_group i g a b = same_test _ _
-        (λ u. has_number labels' i g (kept g (λ l e. b (sym (is_number labels i g u) ∙ e)) ∙ is_number labels i g u))
-        (λ u. has_number labels i g (back u (is_number labels' i g u))) where
+        (λ u. has_label (slice_index labels') i g (kept g (λ l e. b (sym (is_label (slice_index labels) i g u) ∙ e)) ∙ is_label (slice_index labels) i g u))
+        (λ u. has_label (slice_index labels) i g (back u (is_label (slice_index labels') i g u))) where
           back : numbered labels' i g ≡ true → slice_index labels' g ≡ i → slice_index labels g ≡ i
           back u e = elim (cases_lt g (length groups)) [
             | inl l ↦ elim (cases_eq (slice_index labels g) moved) [
@@ -188,13 +191,13 @@ module _ {P : Type 0} (d : Direction) (IsPoolOf : P → List Row → Type 0) (m 
     block : IsTreeBlock d m (tree_problem d groups parents) strict (numbered labels' number) t.top t.value child.value
     block = subst (λ (x : ℕ). IsTreeBlock d m (tree_problem d groups parents) strict (numbered labels' number) x t.value child.value) (sym top)
         (tree_absorbed m strict groups parents tree count (numbered labels' number) (numbered labels j) (numbered labels entry.block) upper.top child.top p upper.value h.limit child.value h.limit t.value parts apart
-        (hangs_of (numbered labels j) upper hu) (hangs_of (numbered labels entry.block) child hc) up (has_number labels j p label) d law hu.block hc.block (ranked j upper above) near
+        (hangs_of (numbered labels j) upper hu) (hangs_of (numbered labels entry.block) child hc) up (has_label (slice_index labels) j p label) d law hu.block hc.block (ranked j upper above) near
         (pool_value IsPoolOf m strict laws groups (tree_pairs d parents) fit (numbered labels' number) t.pool pool.0 t.value minimiser)
         (pool_costs IsPoolOf m strict laws groups (tree_pairs d parents) fit (numbered labels' number) t.pool pool.0 t.value minimiser))
 
     hangs : (g : ℕ) → g < length groups → numbered labels' number g ≡ true → (g ≡ t.top → ⊥) → (q : ℕ) × IsParent parents g q × (numbered labels' number q ≡ true)
     hangs g l u out = hangs_together parents tree (numbered labels' number) (numbered labels j) (numbered labels entry.block) upper.top child.top p (λ g l. parts g (into g l))
-        (hangs_of (numbered labels j) upper hu) (hangs_of (numbered labels entry.block) child hc) up (has_number labels j p label) g (subst (λ (n : ℕ). g < n) (sym count) l) u (λ e. out (e ∙ sym top))
+        (hangs_of (numbered labels j) upper hu) (hangs_of (numbered labels entry.block) child hc) up (has_label (slice_index labels) j p label) g (subst (λ (n : ℕ). g < n) (sym count) l) u (λ e. out (e ∙ sym top))
 
     inside_upper : All (λ g. (g < length groups) × (numbered labels' number g ≡ true)) upper.members.items
     inside_upper = All-weaker (λ g. (g < length groups) × (numbered labels j g ≡ true)) (λ g. (g < length groups) × (numbered labels' number g ≡ true))
@@ -301,7 +304,7 @@ module _ {P : Type 0} (d : Direction) (IsPoolOf : P → List Row → Type 0) (m 
         | inl f ↦ subst (λ (x : Entry). Contains queue' x) (entry_is i b f (same_open t b (sym new ∙ ap (slice_get slots') (sym f) ∙ e))) entered
         | inr out ↦
             let o : (i ≡ j → ⊥) × (i ≡ entry.block → ⊥) × (slice_get slots i ≡ Some (Open b)) = open_before i b e out in
-            elim (contains_first entry queue (record { rank = rank_of d b.value; block = i }) (h.entered i b o.2)) [
+            elim (cons_cases queue entry (record { rank = rank_of d b.value; block = i }) (h.entered i b o.2)) [
               | inl f ↦ absurd (o.1 (sym (ap (λ (x : Entry). x.block) f)))
               | inr c ↦ still (record { rank = rank_of d b.value; block = i }) c
             ]

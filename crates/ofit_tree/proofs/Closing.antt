@@ -14,16 +14,18 @@ use Rattle.ofit_tree.specs.declared.direction.Direction.{Direction}
 use Rattle.ofit_tree.specs.declared.direction.Direction.TheVariants.{RootGreatest}
 use Rattle.ofit_tree.specs.declared.block.Block.{Block}
 use Rattle.ofit_tree.specs.declared.entry.Entry.{Entry}
-use Rattle.ofit_tree.specs.declared.forest.Slot.{Slot}
-use Rattle.ofit_tree.specs.declared.forest.Slot.TheVariants.{Open, Settled, Joined}
+use Rattle.ofit_tree.specs.declared.slot.Slot.{Slot}
+use Rattle.ofit_tree.specs.declared.slot.Slot.TheVariants.{Open, Settled, Joined}
 use Rattle.ofit_tree.specs.Entry.{IsInOrder, rank_of}
 use Rattle.ofit_tree.specs.Tree.{IsParent, IsRootedTree, tree_problem}
-use Rattle.ofit_tree.specs.Level.{IsLevel}
+use Rattle.ofit_num.specs.Level.{IsLevel}
 use Rattle.ofit_tree.specs.Forest.{numbered, IsForest, IsOutdated, IsNoneAbove, IsFirst}
-use Rattle.ofit_tree.proofs.Slots.{at_set, other_set, contains_first, is_number, has_number}
 use Rattle.ofit_tree.proofs.Ranks.{in_order_from_ranks}
 use Rattle.ofit_tree.proofs.Pairs.{child_below, parent_below, one_parent}
 use Rattle.ofit_tree.proofs.TreeBlocks.{tree_level, tree_den, in_order_same}
+use Rattle.ofit_num.proofs.Levels.{is_label, has_label}
+use Rattle.ofit_num.proofs.Members.{cons_cases}
+use Rattle.ofit_num.proofs.Elements.{at_set, other_set}
 
 module _ {P : Type 0} where
   pub same_open : (a b : Block P) → ◌≡◌ {A = Option (Slot P)} (Some (Open a)) (Some (Open b)) → a ≡ b
@@ -67,7 +69,7 @@ module _ {P : Type 0} (d : Direction) (IsPoolOf : P → List Row → Type 0) (m 
     numbers = h.numbers;
     live = h.live;
     waiting = h.waiting;
-    entered = λ k b at. elim (contains_first entry queue (record { rank = rank_of d b.value; block = k }) (h.entered k b at)) [
+    entered = λ k b at. elim (cons_cases queue entry (record { rank = rank_of d b.value; block = k }) (h.entered k b at)) [
       | inl e ↦ absurd (out b (ap (slice_get slots) (blocks e) ∙ at) (sym (ranks e)))
       | inr c ↦ c
     ];
@@ -95,7 +97,7 @@ module _ {P : Type 0} (d : Direction) (IsPoolOf : P → List Row → Type 0) (m 
 
     pub first_ranked : (j : ℕ) (b : Block P) → slice_get slots j ≡ Some (Open b) → IsInOrder d b.value current.value
     first_ranked j b e = in_order_from_ranks d b.value current.value entry.rank (open_den j b e) (open_den entry.block current at) entry_den
-        (elim (contains_first entry queue (record { rank = rank_of d b.value; block = j }) (h.entered j b e)) [
+        (elim (cons_cases queue entry (record { rank = rank_of d b.value; block = j }) (h.entered j b e)) [
           | inl same_entry ↦ subst (λ (r : Fraction). AtMost r entry.rank) (ap (λ (x : Entry). x.rank) same_entry) (omega_refl entry.rank)
           | inr c ↦ All-contains (λ x. AtMost x.rank entry.rank) queue (record { rank = rank_of d b.value; block = j }) first c
         ]) same where
@@ -141,8 +143,8 @@ module _ {P : Type 0} (d : Direction) (IsPoolOf : P → List Row → Type 0) (m 
 
       inner_parent : (g ≡ current.top → ⊥) → slice_index labels p ≡ entry.block
       inner_parent inner =
-          let up' : (q : ℕ) × IsParent parents g q × (numbered labels entry.block q ≡ true) = (h.waiting entry.block current at).hangs g lg (has_number labels entry.block g number) inner in
-          ap (slice_index labels) (one_parent parents g p up'.0 up up'.1) ∙ is_number labels entry.block up'.0 up'.2
+          let up' : (q : ℕ) × IsParent parents g q × (numbered labels entry.block q ≡ true) = (h.waiting entry.block current at).hangs g lg (has_label (slice_index labels) entry.block g number) inner in
+          ap (slice_index labels) (one_parent parents g p up'.0 up up'.1) ∙ is_label (slice_index labels) entry.block up'.0 up'.2
 
     pub block_settles : IsNoneAbove parents labels slots current.top → IsForest d IsPoolOf m strict groups parents labels (set slots entry.block (Settled current.value)) queue
     block_settles none = record {
@@ -161,7 +163,7 @@ module _ {P : Type 0} (d : Direction) (IsPoolOf : P → List Row → Type 0) (m 
       ];
       entered = λ i b e. elim (cases_eq i entry.block) [
         | inl eq ↦ absurd (open_settled b current.value (sym e ∙ ap (slice_get (set slots entry.block (Settled current.value))) eq ∙ here))
-        | inr out ↦ elim (contains_first entry queue (record { rank = rank_of d b.value; block = i }) (h.entered i b (sym (away i out) ∙ e))) [
+        | inr out ↦ elim (cons_cases queue entry (record { rank = rank_of d b.value; block = i }) (h.entered i b (sym (away i out) ∙ e))) [
           | inl eq ↦ absurd (out (sym (ap (λ (x : Entry). x.block) eq)))
           | inr c ↦ c
         ]

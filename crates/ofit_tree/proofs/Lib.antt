@@ -2,7 +2,6 @@ pub mod Pairs
 pub mod LowBlocks
 pub mod TreeBlocks
 pub mod Pools
-pub mod Slots
 pub mod Ranks
 pub mod Closing
 pub mod Absorbing

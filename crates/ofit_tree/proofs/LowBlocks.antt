@@ -9,16 +9,14 @@ use Rattle.ofit_num.specs.Fraction.{Fraction, AtMost, Below}
 use Rattle.ofit_num.specs.Law.{least_at, greatest_at, HasFallingSpans}
 use Rattle.ofit_num.specs.Sets.{set_sum, IsWithin, IsUpperIn, IsLowerIn}
 use Rattle.ofit_num.specs.Block.{IsPooled, IsCost}
-use Rattle.ofit_num.proofs.Blocks.{member_or_none, set_sum-none, set_sum-equal, below_trans}
+use Rattle.ofit_num.proofs.Blocks.{member_or_none, set_sum-none, set_sum-equal, below_trans, set_sum-both}
 use Rattle.ofit_num.proofs.Cuts.{difference, set_sum-difference}
 use Rattle.ofit_num.proofs.Pieces.{meet, both_and}
-use Rattle.ofit_tree.specs.Level.{IsLowBlock, IsLevel}
+use Rattle.ofit_num.specs.Level.{IsLevel}
+use Rattle.ofit_tree.specs.Level.{IsLowBlock}
 use Rattle.ofit_num.proofs.Parts.{in_part, base_in, child_in, upper_part, lower_part}
 use Rattle.ofit_num.proofs.Falls.{set_sum-parted, cost_least, cost_more, rest_upper, rest_lower, rest_within, rest_out, no_rest, cost_falls, least_stays, greatest_follows, least_at_most_greatest}
-
-pub at_most_trans : (a b c : Fraction) → 0 < a.den → 0 < b.den → 0 < c.den → AtMost a b → AtMost b c → AtMost a c
-at_most_trans a b c la lb lc h k = by_lt_z (c.num *ℤ pos a.den) (a.num *ℤ pos c.den)
-    (λ back. absurd (omega (arith, ints, below_trans c a b lc la lb back h, k))) (λ h. h)
+use Rattle.ofit_num.proofs.LoneBlocks.{lone, none_without, whole_with}
 
 module _ (m : Meaning) (s : Problem) (law : HasFallingSpans m s) (strict : Bool) where
   -- an upper set with the top is the whole block
@@ -62,30 +60,16 @@ module _ (m : Meaning) (s : Problem) (law : HasFallingSpans m s) (strict : Bool)
   low_lone piece top value limit below in_ alone pooled pooled_costs lden within = record {
     top_below = below;
     top_in = in_;
-    reaches = λ a inside low g l u. lone a inside g l u;
+    reaches = λ a inside low g l u. lone s piece top alone a inside g l u;
     pooled = pooled;
     pooled_costs = pooled_costs;
     limit_den = lden;
     within = within;
-    raised = λ a inside up out. omega (arith, ints, set_sum-none a (least_at m s limit) s.count (λ g l. none a inside out g l (a g) refl));
-    costs = λ a inside low g l u. subst (IsCost strict) (set_sum-equal piece a (greatest_at m s value) s.count (whole a inside (lone a inside g l u))) pooled_costs;
-    gains = λ b lb h a inside low g l u. subst (λ (z : ℤ). pos 0 <ℤ z) (set_sum-equal piece a (greatest_at m s b) s.count (whole a inside (lone a inside g l u)))
+    raised = λ a inside up out. omega (arith, ints, set_sum-none a (least_at m s limit) s.count (none_without s piece top alone a inside out));
+    costs = λ a inside low g l u. subst (IsCost strict) (set_sum-equal piece a (greatest_at m s value) s.count (whole_with s piece top alone a inside (lone s piece top alone a inside g l u))) pooled_costs;
+    gains = λ b lb h a inside low g l u. subst (λ (z : ℤ). pos 0 <ℤ z) (set_sum-equal piece a (greatest_at m s b) s.count (whole_with s piece top alone a inside (lone s piece top alone a inside g l u)))
         (omega (arith, ints, pooled.smaller b lb h, least_at_most_greatest m s law piece b lb));
-  } where
-    lone : (a : ℕ → Bool) → IsWithin s piece a → (g : ℕ) → g < s.count → a g ≡ true → a top ≡ true
-    lone a inside g l u = subst (λ (x : ℕ). a x ≡ true) (alone g l (inside.each g l u)) u
-
-    none : (a : ℕ → Bool) → IsWithin s piece a → a top ≡ false → (g : ℕ) → g < s.count → (x : Bool) → a g ≡ x → x ≡ false
-    none a inside out g l false e = refl
-    none a inside out g l true e = absurd (both_ways (a top) out (lone a inside g l e))
-
-    whole : (a : ℕ → Bool) → IsWithin s piece a → a top ≡ true → (g : ℕ) → g < s.count → piece g ≡ a g
-    whole a inside t g l = go (piece g) (a g) refl refl where
-      go : (x y : Bool) → piece g ≡ x → a g ≡ y → x ≡ y
-      go true true e f = refl
-      go false false e f = refl
-      go true false e f = absurd (both_ways (a g) f (subst (λ (x : ℕ). a x ≡ true) (sym (alone g l e)) t))
-      go false true e f = absurd (both_ways (piece g) e (inside.each g l f))
+  }
 
   -- A block and the block of a child, of smaller value, are one block at the value that pools them: its limit is the child's value.
   module _ (piece base child : ℕ → Bool) (top leaf : ℕ) (b be c ce t : Fraction) (places : All (λ e. (e.0 < s.count) × (e.1 < s.count)) s.pairs)
@@ -97,21 +81,8 @@ module _ (m : Meaning) (s : Problem) (law : HasFallingSpans m s) (strict : Bool)
     split_sum : (a : ℕ → Bool) (f : ℕ → ℤ) → IsWithin s piece a → set_sum a f s.count ≡ set_sum (meet a base) f s.count +ℤ set_sum (meet a child) f s.count
     split_sum a f inside = set_sum-parted a base child f s.count (λ g l u. sym (parts g l) ∙ inside.each g l u) apart
 
-    met : (part : ℕ → Bool) → ((g : ℕ) → g < s.count → part g ≡ true → piece g ≡ true) → (g : ℕ) → g < s.count → meet piece part g ≡ part g
-    met part inside g l = go (piece g) (part g) refl refl where
-      go : (x y : Bool) → piece g ≡ x → part g ≡ y → (x && y) ≡ y
-      go true y e f = refl
-      go false true e f = absurd (both_ways (piece g) e (inside g l f))
-      go false false e f = refl
-
     whole_sum : (f : ℕ → ℤ) → set_sum piece f s.count ≡ set_sum base f s.count +ℤ set_sum child f s.count
-    whole_sum f = omega (
-      arith,
-      ints,
-      split_sum piece f (record { each = λ g l u. u }),
-      set_sum-equal (meet piece base) base f s.count (met base (base_in s.count piece base child parts)),
-      set_sum-equal (meet piece child) child f s.count (met child (child_in s.count piece base child parts)),
-    )
+    whole_sum f = set_sum-both piece base child f s.count parts apart
 
     -- the pooled value lies between the two
     at_least_child : AtMost c t

@@ -1,7 +1,6 @@
 -- pools of the rows of pieces: of one group, and of two pieces together
-use Rattle.std.proofs.Common.{◌≡◌, ℕ, zero, suc, ◌+◌, ◌<◌, ◌≤◌, refl, sym, ap, ◌∙◌, arith, cond, Bool, true, false, ◌||◌, List, [], ◌++◌, length, take, length-append, inl, inr, get_or}
+use Rattle.std.proofs.Common.{◌≡◌, ℕ, zero, suc, ◌+◌, ◌<◌, ◌≤◌, refl, sym, ap, ◌∙◌, arith, cond, Bool, true, false, ◌||◌, List, [], ◌++◌, length, take, length-append, inl, inr}
 use Rattle.std.proofs.lemmas.Int.{ints}
-use Rattle.std.proofs.lemmas.Option.{slice_get-get_or}
 use Rattle.std.proofs.lemmas.Bool.{cases_order}
 use Rattle.std.proofs.lemmas.List.{take_all}
 use Rattle.std.proofs.lemmas.List.Sums.{sum_by-append}
@@ -16,7 +15,7 @@ use Rattle.ofit_num.specs.Law.{least_at, greatest_at}
 use Rattle.ofit_num.specs.Limits.{IsRowWithinLimits, total_weight, all_rows}
 use Rattle.ofit_num.specs.Sets.{set_sum}
 use Rattle.ofit_num.specs.Block.{IsPooled, IsCost}
-use Rattle.ofit_num.proofs.RowLists.{all_rows-take_more}
+use Rattle.ofit_num.proofs.RowLists.{all_rows-take_more, group_at}
 use Rattle.ofit_loss.specs.Rows.{AreFittable, special_count}
 use Rattle.ofit_loss.specs.Laws.{HasLossLaws}
 use Rattle.ofit_loss.specs.Least.{IsLeastMinimiser}
@@ -54,9 +53,6 @@ lone_sum piece k f (suc n) l u alone = elim (cases_order k n) [
   out : (x : Bool) → piece n ≡ x → k < n → piece n ≡ false
   out false e b = e
   out true e b = absurd (omega (arith, alone n (omega arith) e))
-
-group_at : (gs : RowLists) (k : ℕ) → k < length gs → (rows : List Row) × (slice_get gs k ≡ Some rows)
-group_at gs k l = (get_or gs k [], slice_get-get_or gs k [] l)
 
 -- what adds over rows is over a piece at most what it is over all rows
 piece_bound : (F : List Row → ℕ) → ((xs ys : List Row) → F (xs ++ ys) ≡ F xs + F ys) → (groups : RowLists) (piece : ℕ → Bool) (n : ℕ) → n ≤ length groups

@@ -1,5 +1,5 @@
 -- the queue of a forest: in another order, and its first entry; and what is left when it is empty
-use Rattle.std.proofs.Common.{◌≡◌, ℕ, zero, suc, ◌+◌, ◌-◌, ◌<◌, refl, sym, ap, subst, ◌∙◌, arith, Bool, false, List, [], ◌∷◌, ◌++◌, length, length-append, inl, inr}
+use Rattle.std.proofs.Common.{◌≡◌, ℕ, suc, ◌+◌, ◌-◌, ◌<◌, sym, ap, subst, ◌∙◌, arith, Bool, false, List, [], ◌∷◌, ◌++◌, length, length-append, inl, inr}
 use Rattle.std.proofs.lemmas.Int.{by_lt_z}
 use Rattle.std.proofs.lemmas.Bool.{both_ways, cases_eq}
 use Rattle.std.proofs.lemmas.List.Elements.{All-head, All-tail, All-from_recursion}
@@ -17,11 +17,12 @@ use Rattle.ofit_num.specs.Meaning.{Meaning}
 use Rattle.ofit_num.specs.Fraction.{Fraction, AtMost}
 use Rattle.ofit_tree.specs.declared.direction.Direction.{Direction}
 use Rattle.ofit_tree.specs.declared.entry.Entry.{Entry}
-use Rattle.ofit_tree.specs.declared.forest.Slot.{Slot}
-use Rattle.ofit_tree.specs.declared.forest.Slot.TheVariants.{Settled}
+use Rattle.ofit_tree.specs.declared.slot.Slot.{Slot}
+use Rattle.ofit_tree.specs.declared.slot.Slot.TheVariants.{Settled}
 use Rattle.ofit_tree.specs.Entry.{entry_cmp, rank_of}
 use Rattle.ofit_tree.specs.Forest.{IsForest, IsFirst, AreAllSettled, AreSettledValues}
 use Rattle.ofit_tree.proofs.Closing.{by_slot}
+use Rattle.ofit_num.proofs.Elements.{slice_get-push, slice_get-before}
 
 -- where no number is less
 not_less : (x y : ℤ) → is_lt (int_cmp x y) ≡ false → y ≤ℤ x
@@ -63,15 +64,6 @@ module _ {P : Type 0} (d : Direction) (IsPoolOf : P → List Row → Type 0) (m 
       (λ b e. absurd (omega (arith, (h.entered (slice_index labels g) b e).1)))
       (λ v e. (v, e))
       (λ e. absurd (h.live g (subst (λ (n : ℕ). g < n) h.labels_count l) e))
-
-slice_get-push : {X : Type 0} (xs : List X) (x : X) → slice_get (xs ++ x ∷ []) (length xs) ≡ Some x
-slice_get-push [] x = refl
-slice_get-push (y ∷ xs) x = slice_get-push xs x
-
-slice_get-before : {X : Type 0} (xs : List X) (x : X) (k : ℕ) → k < length xs → slice_get (xs ++ x ∷ []) k ≡ slice_get xs k
-slice_get-before [] x k l = absurd (omega arith)
-slice_get-before (y ∷ xs) x zero l = refl
-slice_get-before (y ∷ xs) x (suc k) l = slice_get-before xs x k (omega arith)
 
 -- one value more
 pub values_more : {P : Type 0} (labels : List ℕ) (slots : List (Slot P)) (n : ℕ) (values : List Fraction) (v : Fraction) → AreSettledValues labels slots n values → slice_get slots (slice_index labels n) ≡ Some (Settled v) → AreSettledValues labels slots (n + 1) (values ++ v ∷ [])

@@ -7,7 +7,7 @@ use Rattle.ofit_num.proofs.Gap.{is_gap, gap-same, gap-mul, gap-neg, pos-gap}
 use Rattle.ofit_tree.specs.declared.direction.Direction.{Direction}
 use Rattle.ofit_tree.specs.declared.direction.Direction.TheVariants.{RootGreatest, RootLeast}
 use Rattle.ofit_tree.specs.Entry.{IsInOrder, rank_of}
-use Rattle.ofit_tree.proofs.LowBlocks.{at_most_trans}
+use Rattle.ofit_num.proofs.Division.{at_most_trans}
 
 negated : (x : ℤ) (k : ℕ) → neg_ℤ x *ℤ pos k ≡ neg_ℤ (x *ℤ pos k)
 negated x k = rw (is_gap x) (simp (pos-gap, gap-neg, gap-mul) (gap-same _ _ _ _ (omega arith)))

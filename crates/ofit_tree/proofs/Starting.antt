@@ -22,26 +22,18 @@ use Rattle.ofit_loss.proofs.ProblemLaws.{groups_fittable, problem_falling}
 use Rattle.ofit_tree.specs.declared.direction.Direction.{Direction}
 use Rattle.ofit_tree.specs.declared.block.Block.{Block}
 use Rattle.ofit_tree.specs.declared.entry.Entry.{Entry}
-use Rattle.ofit_tree.specs.declared.forest.Slot.{Slot}
-use Rattle.ofit_tree.specs.declared.forest.Slot.TheVariants.{Open, Settled, Joined}
+use Rattle.ofit_tree.specs.declared.slot.Slot.{Slot}
+use Rattle.ofit_tree.specs.declared.slot.Slot.TheVariants.{Open, Settled, Joined}
 use Rattle.ofit_tree.specs.Entry.{IsInOrder, rank_of}
 use Rattle.ofit_tree.specs.Tree.{tree_pairs, tree_problem}
 use Rattle.ofit_tree.specs.Level.{IsTreeBlock}
 use Rattle.ofit_tree.specs.Forest.{numbered, IsPoolOfPiece, IsOpenBlock, IsForest, IsLoneBlock, IsStart}
-use Rattle.ofit_tree.proofs.Slots.{is_number, has_number}
 use Rattle.ofit_tree.proofs.Pools.{lone_pool, pool_value, pool_costs}
 use Rattle.ofit_tree.proofs.Ranks.{in_order_either}
 use Rattle.ofit_tree.proofs.TreeBlocks.{in_order_same, in_order_trans, tree_lone}
 use Rattle.ofit_tree.proofs.Closing.{same_open, open_settled, open_joined}
-
-slice_get-push : {X : Type 0} (xs : List X) (x : X) → slice_get (xs ++ x ∷ []) (length xs) ≡ Some x
-slice_get-push [] x = refl
-slice_get-push (y ∷ xs) x = slice_get-push xs x
-
-slice_get-before : {X : Type 0} (xs : List X) (x : X) (k : ℕ) → k < length xs → slice_get (xs ++ x ∷ []) k ≡ slice_get xs k
-slice_get-before [] x k l = absurd (omega arith)
-slice_get-before (y ∷ xs) x zero l = refl
-slice_get-before (y ∷ xs) x (suc k) l = slice_get-before xs x k (omega arith)
+use Rattle.ofit_num.proofs.Levels.{is_label, has_label}
+use Rattle.ofit_num.proofs.Elements.{slice_get-push, slice_get-before}
 
 -- some value stands at or past each of those that wait
 highest : {P : Type 0} (d : Direction) (slots : List (Slot P)) → ((k : ℕ) (b : Block P) → slice_get slots k ≡ Some (Open b) → 0 < b.value.den)
@@ -149,10 +141,10 @@ module _ {P : Type 0} (d : Direction) (IsPoolOf : P → List Row → Type 0) (m 
       l = subst (λ (n : ℕ). k < n) h.slots_count (slice_get_within slots k (Open b) e)
 
       here : numbered labels k k ≡ true
-      here = has_number labels k k (h.numbers k l)
+      here = has_label (slice_index labels) k k (h.numbers k l)
 
       alone : (g : ℕ) → g < length groups → numbered labels k g ≡ true → g ≡ k
-      alone g lg u = sym (h.numbers g lg) ∙ is_number labels k g u
+      alone g lg u = sym (h.numbers g lg) ∙ is_label (slice_index labels) k g u
 
       pool : (q : IsPoolOfPiece IsPoolOf m (tree_problem d groups parents) (numbered labels k) b.pool) × (q.rows ≡ one.rows)
       pool = lone_pool IsPoolOf m strict laws groups (tree_pairs d parents) fit (numbered labels k) k one.rows b.pool l one.at (All-slice_get (λ rows. 0 < length rows) groups k one.rows filled one.at) here alone one.pool

@@ -18,8 +18,8 @@ use Rattle.ofit_loss.specs.Least.{IsLeastMinimiser}
 use Rattle.ofit_tree.specs.declared.direction.Direction.{Direction}
 use Rattle.ofit_tree.specs.declared.block.Block.{Block}
 use Rattle.ofit_tree.specs.declared.entry.Entry.{Entry}
-use Rattle.ofit_tree.specs.declared.forest.Slot.{Slot}
-use Rattle.ofit_tree.specs.declared.forest.Slot.TheVariants.{Open, Settled, Joined}
+use Rattle.ofit_tree.specs.declared.slot.Slot.{Slot}
+use Rattle.ofit_tree.specs.declared.slot.Slot.TheVariants.{Open, Settled, Joined}
 use Rattle.ofit_tree.specs.Entry.{rank_of}
 use Rattle.ofit_num.specs.Law.{HasFallingSpans}
 use Rattle.ofit_num.specs.Problem.{no_bounds}
@@ -28,11 +28,12 @@ use Rattle.ofit_tree.specs.Tree.{IsParent, tree_pairs, tree_problem}
 use Rattle.ofit_loss.specs.Pool.{CanMerge}
 use Rattle.ofit_tree.specs.Merge.{AreTogether, IsRenumbered}
 use Rattle.ofit_tree.specs.Forest.{numbered, IsForest, IsCurrent, IsOutdated, IsNoneAbove, IsFirst, IsFittableTree, CanAbsorb, is_open}
-use Rattle.ofit_tree.proofs.Slots.{at_set, other_set, is_number, has_number}
 use Rattle.ofit_tree.proofs.Ranks.{rank_den}
 use Rattle.ofit_tree.proofs.TreeBlocks.{tree_top}
 use Rattle.ofit_tree.proofs.Closing.{same_open, outdated_goes, entry_below, block_settles}
 use Rattle.ofit_tree.proofs.Absorbing.{two_blocks, hc, hu, rows_fittable, rows_some, block_absorbs}
+use Rattle.ofit_num.proofs.Levels.{is_label, has_label}
+use Rattle.ofit_num.proofs.Elements.{at_set, other_set}
 
 -- how many pass a test, where one element is changed
 pub count_set : {X : Type 0} (p : X → Bool) (xs : List X) (k : ℕ) (x y : X) → slice_get xs k ≡ Some x → count_by p (set xs k y) + cond (p x) 1 0 ≡ count_by p xs + cond (p y) 1 0
@@ -151,12 +152,12 @@ module _ {P : Type 0} (d : Direction) (IsPoolOf : P → List Row → Type 0) (m 
 
         -- the groups of a block that waits are its members
         given : (moved_number : ℕ) (b : Block P) → slice_get slots moved_number ≡ Some (Open b) → (g : ℕ) → g < length groups → slice_index labels g ≡ moved_number → Contains b.members.items g
-        given k b e g l number_is = (h.waiting k b e).all g l (has_number labels k g number_is)
+        given k b e g l number_is = (h.waiting k b e).all g l (has_label (slice_index labels) k g number_is)
 
         kept : (k : ℕ) (b : Block P) → slice_get slots k ≡ Some (Open b) → (g : ℕ) → (g < length groups → slice_index labels g ≡ k → ⊥) → Contains b.members.items g → ⊥
         kept k b e g out c =
             let in_ : (g < length groups) × (numbered labels k g ≡ true) = All-contains (λ g. (g < length groups) × (numbered labels k g ≡ true)) b.members.items g (h.waiting k b e).members c in
-            out in_.0 (is_number labels k g in_.1)
+            out in_.0 (is_label (slice_index labels) k g in_.1)
 
         pub step_absorbs : IsForest d IsPoolOf m strict groups parents labels' slots' queue'
         unfolding can_merge

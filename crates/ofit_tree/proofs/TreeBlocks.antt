@@ -2,7 +2,7 @@
 use Rattle.std.proofs.Common.{◌≡◌, ℕ, ◌<◌, refl, sym, ap, subst, ◌∙◌, arith, Bool, true, false, ◌||◌, ◌&&◌, List, length, ◌⊎◌, inl, inr}
 use Rattle.std.proofs.lemmas.Int.{ints}
 use Rattle.std.proofs.lemmas.Bool.{both_ways, cases_eq}
-use Rattle.std.specs.Prelude.{ℤ, pos, ◌+ℤ◌, ◌≤ℤ◌, ◌<ℤ◌, All, Option}
+use Rattle.std.specs.Prelude.{ℤ, pos, ◌+ℤ◌, ◌<ℤ◌, All, Option}
 use Rattle.ofit_num.specs.Groups.{RowLists}
 use Rattle.ofit_num.specs.Problem.{Problem}
 use Rattle.ofit_num.specs.Meaning.{Meaning}
@@ -11,29 +11,27 @@ use Rattle.ofit_num.specs.Law.{least_at, greatest_at, HasFallingSpans}
 use Rattle.ofit_num.specs.Sets.{set_sum, IsWithin, IsUpperIn, IsLowerIn}
 use Rattle.ofit_num.specs.Steep.{IsSteep}
 use Rattle.ofit_num.specs.Block.{IsPooled, IsBlock, IsCost}
-use Rattle.ofit_num.proofs.Blocks.{absorbed, block_costs, member_or_none, set_sum-none, set_sum-equal, below_trans}
-use Rattle.ofit_num.proofs.Cuts.{difference}
+use Rattle.ofit_num.proofs.Blocks.{absorbed, block_costs, member_or_none, set_sum-none, set_sum-equal, below_trans, lower_with_top}
 use Rattle.ofit_num.proofs.Pieces.{meet, and_both, both_and}
 use Rattle.ofit_tree.specs.declared.direction.Direction.{Direction}
 use Rattle.ofit_tree.specs.declared.direction.Direction.TheVariants.{RootGreatest, RootLeast}
 use Rattle.ofit_tree.specs.Entry.{IsInOrder}
 use Rattle.ofit_tree.specs.Tree.{tree_problem, IsParent, IsRootedTree}
-use Rattle.ofit_tree.specs.Level.{IsLevel, IsTreeBlock}
-use Rattle.ofit_num.proofs.Falls.{set_sum-parted, rest_upper, rest_within, rest_out, no_rest, cost_falls, least_at_most_greatest}
+use Rattle.ofit_num.specs.Level.{IsLevel}
+use Rattle.ofit_tree.specs.Level.{IsTreeBlock}
+use Rattle.ofit_num.proofs.Falls.{set_sum-parted, cost_falls, least_at_most_greatest}
 use Rattle.ofit_tree.proofs.Pairs.{pair_at, each_pair, one_parent, places, parent_below, child_below, depth, deeper, Hangs, top_highest, climbs_to_top, hangs_together}
-use Rattle.ofit_tree.proofs.LowBlocks.{at_most_trans, low_level, low_limit, low_lone, low_absorbed}
+use Rattle.ofit_num.proofs.Division.{at_most_trans}
+use Rattle.ofit_tree.proofs.LowBlocks.{low_level, low_limit, low_lone, low_absorbed}
+use Rattle.ofit_num.proofs.LoneBlocks.{lone_block, lone_steep}
 
 module _ (m : Meaning) (s : Problem) (law : HasFallingSpans m s) (strict : Bool) where
-  lower_with_top : (piece : ℕ → Bool) (top : ℕ) (value limit : Fraction) → IsBlock m s strict piece top value limit → (a : ℕ → Bool) → IsWithin s piece a → IsLowerIn s piece a → a top ≡ true → (g : ℕ) → g < s.count → piece g ≡ a g
-  lower_with_top piece top value limit block a inside low t =
-      no_rest s piece a inside (λ g l u. both_ways (difference piece a top) (rest_out piece a top t) (block.reaches (difference piece a) (rest_within s piece a) (rest_upper s piece a low) g l u))
-
   -- each lower set that has a place would gain by rising from a value below the block's
   great_gains : (piece : ℕ → Bool) (top : ℕ) (value limit : Fraction) → IsBlock m s strict piece top value limit → IsSteep m s piece top limit → (v : Fraction) → 0 < v.den → Below v value
       → (a : ℕ → Bool) → IsWithin s piece a → IsLowerIn s piece a → (g : ℕ) → g < s.count → a g ≡ true → pos 0 <ℤ set_sum a (least_at m s v) s.count
   great_gains piece top value limit block steep v lv below a inside low g l u = go (a top) refl where
     go : (x : Bool) → a top ≡ x → pos 0 <ℤ set_sum a (least_at m s v) s.count
-    go true t = subst (λ (z : ℤ). pos 0 <ℤ z) (set_sum-equal piece a (least_at m s v) s.count (lower_with_top piece top value limit block a inside low t)) (block.pooled.smaller v lv below)
+    go true t = subst (λ (z : ℤ). pos 0 <ℤ z) (set_sum-equal piece a (least_at m s v) s.count (lower_with_top m s law strict piece top value limit block a inside low t)) (block.pooled.smaller v lv below)
     go false t = steep.gains v lv (below_trans v value limit lv block.pooled.den block.limit_den below block.within) a inside low t g l u
 
   great_level : (piece : ℕ → Bool) (top : ℕ) (value limit : Fraction) → IsBlock m s strict piece top value limit → IsSteep m s piece top limit → IsLevel m s strict piece value
@@ -61,42 +59,6 @@ module _ (m : Meaning) (s : Problem) (law : HasFallingSpans m s) (strict : Bool)
   steep_limit : (piece : ℕ → Bool) (top : ℕ) (limit c : Fraction) → 0 < limit.den → IsSteep m s piece top limit → 0 < c.den → AtMost c limit → IsSteep m s piece top c
   steep_limit piece top limit c ll steep lc falls = record { gains = λ b lb below a inside low out g l u. steep.gains b lb (below_trans b c limit lb lc ll below falls) a inside low out g l u }
 
-  -- a lone group, with any limit
-  module _ (piece : ℕ → Bool) (top : ℕ) (value limit : Fraction) (below : top < s.count) (top_in : piece top ≡ true) (alone : (g : ℕ) → g < s.count → piece g ≡ true → g ≡ top)
-      (pooled : IsPooled m s piece value) (pooled_costs : IsCost strict (set_sum piece (greatest_at m s value) s.count)) (lden : 0 < limit.den) (within : AtMost value limit) where
-    lone : (a : ℕ → Bool) → IsWithin s piece a → (g : ℕ) → g < s.count → a g ≡ true → a top ≡ true
-    lone a inside g l u = subst (λ (x : ℕ). a x ≡ true) (alone g l (inside.each g l u)) u
-
-    lone_raised : (a : ℕ → Bool) → IsWithin s piece a → (x : Bool) → a top ≡ x → set_sum a (least_at m s value) s.count ≤ℤ pos 0
-    lone_raised a inside true t = subst (λ (z : ℤ). z ≤ℤ pos 0) (set_sum-equal piece a (least_at m s value) s.count whole) pooled.least where
-      whole : (g : ℕ) → g < s.count → piece g ≡ a g
-      whole g l = go (piece g) (a g) refl refl where
-        go : (x y : Bool) → piece g ≡ x → a g ≡ y → x ≡ y
-        go true true e f = refl
-        go false false e f = refl
-        go true false e f = absurd (both_ways (a g) f (subst (λ (x : ℕ). a x ≡ true) (sym (alone g l e)) t))
-        go false true e f = absurd (both_ways (piece g) e (inside.each g l f))
-    lone_raised a inside false t = omega (arith, ints, set_sum-none a (least_at m s value) s.count (λ g l. none g l (a g) refl)) where
-      none : (g : ℕ) → g < s.count → (x : Bool) → a g ≡ x → x ≡ false
-      none g l false e = refl
-      none g l true e = absurd (both_ways (a top) t (lone a inside g l e))
-
-    great_lone : IsBlock m s strict piece top value limit
-    great_lone = record {
-      top_below = below;
-      top_in = top_in;
-      reaches = λ a inside up g l u. lone a inside g l u;
-      pooled = pooled;
-      pooled_costs = pooled_costs;
-      limit_den = lden;
-      within = within;
-      raised = λ a inside up. lone_raised a inside (a top) refl;
-      costs = λ b inside low out g l u. absurd (both_ways (b top) out (lone b inside g l u));
-    }
-
-    steep_lone : IsSteep m s piece top limit
-    steep_lone = record { gains = λ b lb h a inside low out g l u. absurd (both_ways (a top) out (lone a inside g l u)) }
-
 -- the same for both directions
 pub in_order_trans : (d : Direction) (a b c : Fraction) → 0 < a.den → 0 < b.den → 0 < c.den → IsInOrder d a b → IsInOrder d b c → IsInOrder d a c
 in_order_trans RootGreatest a b c la lb lc h k = at_most_trans a b c la lb lc h k
@@ -118,7 +80,7 @@ module _ (m : Meaning) (s : Problem) (law : HasFallingSpans m s) (strict : Bool)
   pub tree_lone : (d : Direction) (piece : ℕ → Bool) (top : ℕ) (value limit : Fraction) → top < s.count → piece top ≡ true → ((g : ℕ) → g < s.count → piece g ≡ true → g ≡ top) → IsPooled m s piece value
       → IsCost strict (set_sum piece (greatest_at m s value) s.count) → 0 < limit.den → IsInOrder d value limit → IsTreeBlock d m s strict piece top value limit
   tree_lone RootGreatest piece top value limit below top_in alone pooled pooled_costs lden within =
-      (great_lone m s law strict piece top value limit below top_in alone pooled pooled_costs lden within, steep_lone m s law strict piece top value limit below top_in alone pooled pooled_costs lden within)
+      (lone_block m s strict piece top value limit below top_in alone pooled pooled_costs lden within, lone_steep m s strict piece top value limit below top_in alone pooled pooled_costs lden within)
   tree_lone RootLeast piece top value limit below top_in alone pooled pooled_costs lden within = low_lone m s law strict piece top value limit below top_in alone pooled pooled_costs lden within
 
 pub tree_den : (d : Direction) (m : Meaning) (s : Problem) (strict : Bool) (piece : ℕ → Bool) (top : ℕ) (value limit : Fraction) → IsTreeBlock d m s strict piece top value limit → 0 < value.den

@@ -13,11 +13,12 @@ use Rattle.ofit_loss.specs.Least.{IsLeastMinimiser}
 use Rattle.ofit_tree.specs.declared.direction.Direction.{Direction}
 use Rattle.ofit_tree.specs.declared.block.Block.{Block}
 use Rattle.ofit_tree.specs.declared.entry.Entry.{Entry}
-use Rattle.ofit_tree.specs.declared.forest.Slot.{Slot}
-use Rattle.ofit_tree.specs.declared.forest.Slot.TheVariants.{Open, Settled, Joined}
+use Rattle.ofit_tree.specs.declared.slot.Slot.{Slot}
+use Rattle.ofit_tree.specs.declared.slot.Slot.TheVariants.{Open, Settled, Joined}
 use Rattle.ofit_tree.specs.Entry.{IsInOrder, rank_of}
 use Rattle.ofit_tree.specs.Tree.{IsParent, IsRootedTree, tree_problem}
-use Rattle.ofit_tree.specs.Level.{IsLevel, IsTreeBlock}
+use Rattle.ofit_num.specs.Level.{IsLevel}
+use Rattle.ofit_tree.specs.Level.{IsTreeBlock}
 
 -- the groups that have this number
 abbrev pub numbered : List ℕ → ℕ → ℕ → Bool

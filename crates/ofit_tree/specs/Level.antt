@@ -1,4 +1,4 @@
--- Pieces of a tree that have one value: blocks whose root is greatest or least, and what a fit needs of each.
+-- Blocks of a tree whose root is greatest or least.
 use Rattle.std.specs.Prelude.{◌≡◌, ℕ, ◌<◌, Bool, true, false, pos, ◌≤ℤ◌, ◌<ℤ◌}
 use Rattle.ofit_num.specs.Problem.{Problem}
 use Rattle.ofit_num.specs.Meaning.{Meaning}
@@ -9,13 +9,6 @@ use Rattle.ofit_num.specs.Block.{IsPooled, IsBlock, IsCost}
 use Rattle.ofit_num.specs.Steep.{IsSteep}
 use Rattle.ofit_tree.specs.declared.direction.Direction.{Direction}
 use Rattle.ofit_tree.specs.declared.direction.Direction.TheVariants.{RootGreatest, RootLeast}
-
--- No upper set of the piece gains by rising from the value, each lower set that has a place costs by falling from it, and would gain by rising again from each smaller value.
-pub record IsLevel (m : Meaning) (s : Problem) (strict : Bool) (piece : ℕ → Bool) (value : Fraction) : Type 0 where
-  pub den : 0 < value.den
-  pub raised : (a : ℕ → Bool) → IsWithin s piece a → IsUpperIn s piece a → set_sum a (least_at m s value) s.count ≤ℤ pos 0
-  pub costs : (a : ℕ → Bool) → IsWithin s piece a → IsLowerIn s piece a → (g : ℕ) → g < s.count → a g ≡ true → IsCost strict (set_sum a (greatest_at m s value) s.count)
-  pub gains : (b : Fraction) → 0 < b.den → Below b value → (a : ℕ → Bool) → IsWithin s piece a → IsLowerIn s piece a → (g : ℕ) → g < s.count → a g ≡ true → pos 0 <ℤ set_sum a (greatest_at m s b) s.count
 
 -- A block whose top is in each of its lower sets that has a place. Its rows together have their least minimiser at value; none of its upper sets that leaves out the top gains by rising from limit.
 pub record IsLowBlock (m : Meaning) (s : Problem) (strict : Bool) (piece : ℕ → Bool) (top : ℕ) (value limit : Fraction) : Type 0 where

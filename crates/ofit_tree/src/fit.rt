@@ -12,7 +12,9 @@ ghost use Rattle.ofit_tree.specs.Forest.{IsStart, IsForest, IsFittableTree, AreA
 use crate::block::lone_block;
 use crate::direction::Direction;
 use crate::entry::{Entry, rank_of};
-use crate::forest::{Forest, Slot, Tree, take_up};
+use crate::forest::{Forest, take_up};
+use crate::slot::Slot;
+use crate::tree::Tree;
 use ofit_loss::Loss;
 use ofit_num::{Frac, Groups};
 use std::alloc::{AllocError, Global};

@@ -6,6 +6,10 @@ mod direction;
 mod entry;
 mod fit;
 mod forest;
+mod labels;
+mod slot;
+mod tree;
+mod waiting;
 
 pub use direction::Direction;
 pub use fit::fit_tree;

@@ -1,31 +1,23 @@
 -- what is found of the settings
-use Rattle.std.proofs.Common.{◌≡◌, ℕ, List, [], ◌∷◌, ◌++◌, refl, sym, ap, ◌∙◌, subst, append_assoc, inl, inr}
+use Rattle.std.proofs.Common.{◌≡◌, ℕ, ◌+◌, length, List, [], ◌∷◌, ◌++◌, refl, sym, ap, ◌∙◌, subst, append_assoc, inl, inr}
 use Rattle.std.proofs.lemmas.List.{append-nil}
-use Rattle.std.specs.Prelude.{true, false, Option, Some, None, is_some, IfOk, Result, Ok, Err, IsErrOf, ◌⊎◌}
+use Rattle.std.specs.Prelude.{false, IfOk, Result, Ok, Err, IsErrOf, ◌⊎◌}
 use Rattle.ofit_words.specs.declared.command.Command.{Command}
 use Rattle.ofit_words.specs.declared.command.Command.TheVariants as commands
 use Rattle.ofit_words.specs.declared.key.Key.{Key}
 use Rattle.ofit_words.specs.declared.job.Job.{Job}
 use Rattle.ofit_words.specs.declared.fault.WordFault.{WordFault}
 use Rattle.ofit_words.specs.declared.fault.WordFault.TheVariants.{NoCommand, UnknownCommand, MissingName, LevelOutOfRange, UnknownSetting, RepeatedSetting, BadSetting, BoundsCross, Memory}
-use Rattle.ofit_words.specs.Commands.{command_name, has_key, Sets}
-use Rattle.ofit_words.specs.Given.{NoneSets, Given, AreInForce, IsUnknown, IsFine, AreFine}
+use Rattle.ofit_words.specs.Commands.{command_name, name_count, has_key, Sets}
+use Rattle.ofit_words.specs.Given.{AreInForce, IsUnknown, IsFine, AreFine}
 use Rattle.ofit_words.specs.Judged.{Judged, HasFault, UnlessMemory}
-use Rattle.ofit_words.specs.Words.{IsCall, WordsRead, IsJobInLimits}
+use Rattle.ofit_words.specs.Words.{FirstAt, IsCall, WordsRead, IsJobInLimits}
 use Rattle.ofit_words.specs.Made.{JobMade, InputsMade, IsNoLevel}
-use Rattle.ofit_words.proofs.Settled.{one_setting, not_true, not_false}
+use Rattle.ofit_words.proofs.Settled.{one_setting, not_false}
 
 -- a key that the command doesn't have makes the word an unknown one
 pub unknown_from : (command : Command) (word : List ℕ) (key : Key) (value : List ℕ) → Sets word key value → has_key command key ≡ false → IsUnknown command word
 unknown_from command word key value s h = λ k v has t. not_false (sym has ∙ ap (has_key command) (one_setting k key v value (sym t ∙ s)).0 ∙ h)
-
-pub earlier_from : (before : List (List ℕ)) (key : Key) (r : Option (List ℕ)) → is_some r ≡ true → Given before key r → (v : List ℕ) × Given before key (Some v)
-earlier_from before key (Some v) e g = (v, g)
-earlier_from before key None e g = absurd (not_true e)
-
-pub first_from : (before : List (List ℕ)) (key : Key) (r : Option (List ℕ)) → is_some r ≡ false → Given before key r → NoneSets before key
-first_from before key (Some v) e g = absurd (not_false e)
-first_from before key None e g = g
 
 pub fine_more : (command : Command) (places groups : ℕ) (before words : List (List ℕ)) (word : List ℕ) → AreFine command places groups before words → IsFine command places groups (before ++ words) word
     → AreFine command places groups before (words ++ word ∷ [])
@@ -50,6 +42,18 @@ moved words command names ss ts e h = let P : List (List ℕ) → Type 0 = IsCal
 in_force_moved : (ss ts : List (List ℕ)) (places groups : ℕ) → ss ≡ ts → AreInForce ss places groups → AreInForce ts places groups
 in_force_moved ss ts places groups e h = let P : List (List ℕ) → Type 0 = λ s. AreInForce s places groups in subst P e h
 
+-- the first setting with a fault, at its place among all the words
+first_at : (fault : WordFault) (words : List (List ℕ)) (command : Command) (names ss : List (List ℕ)) (places groups place : ℕ) → IsCall words command names ss → AreInForce ss places groups → (h : HasFault command places groups ss fault)
+    → place ≡ 1 + name_count command + length h.before → FirstAt words place command places groups h.before h.word
+first_at fault words command names ss places groups place c f h at = record {
+  names = names;
+  after = h.after;
+  call = moved words command names ss (h.before ++ h.word ∷ h.after) h.spells c;
+  in_force = in_force_moved ss (h.before ++ h.word ∷ h.after) places groups h.spells f;
+  fine = h.fine;
+  at = at;
+}
+
 -- the fault of a setting is the first of all the words
 pub fault_of_words : (fault : WordFault) (words : List (List ℕ)) (command : Command) (names ss : List (List ℕ)) (places groups : ℕ) → IsCall words command names ss → AreInForce ss places groups
     → UnlessMemory fault (HasFault command places groups ss fault) → IsErrOf {T = Job} (Err fault) Memory ⊎ WordsRead words (Err fault)
@@ -59,54 +63,12 @@ fault_of_words UnknownCommand words command names ss places groups c f h = absur
 fault_of_words MissingName words command names ss places groups c f h = absurd h.judged
 fault_of_words LevelOutOfRange words command names ss places groups c f h = absurd h.judged
 fault_of_words BoundsCross words command names ss places groups c f h = absurd h.judged
-fault_of_words (UnknownSetting n) words command names ss places groups c f h = inr (
-  command,
-  places,
-  groups,
-  h.before,
-  h.word,
-  record {
-    names = names;
-    after = h.after;
-    call = moved words command names ss (h.before ++ h.word ∷ h.after) h.spells c;
-    in_force = in_force_moved ss (h.before ++ h.word ∷ h.after) places groups h.spells f;
-    fine = h.fine;
-    at = h.judged.0;
-  },
-  h.judged.1,
-)
-fault_of_words (RepeatedSetting n) words command names ss places groups c f h = inr (
-  command,
-  places,
-  groups,
-  h.before,
-  h.word,
-  record {
-    names = names;
-    after = h.after;
-    call = moved words command names ss (h.before ++ h.word ∷ h.after) h.spells c;
-    in_force = in_force_moved ss (h.before ++ h.word ∷ h.after) places groups h.spells f;
-    fine = h.fine;
-    at = h.judged.0;
-  },
-  h.judged.1,
-)
-fault_of_words (BadSetting n) words command names ss places groups c f h = inr (
-  command,
-  places,
-  groups,
-  h.before,
-  h.word,
-  record {
-    names = names;
-    after = h.after;
-    call = moved words command names ss (h.before ++ h.word ∷ h.after) h.spells c;
-    in_force = in_force_moved ss (h.before ++ h.word ∷ h.after) places groups h.spells f;
-    fine = h.fine;
-    at = h.judged.0;
-  },
-  h.judged.1,
-)
+fault_of_words (UnknownSetting n) words command names ss places groups c f h =
+    inr (command, places, groups, h.before, h.word, first_at (UnknownSetting n) words command names ss places groups n c f h h.judged.0, h.judged.1)
+fault_of_words (RepeatedSetting n) words command names ss places groups c f h =
+    inr (command, places, groups, h.before, h.word, first_at (RepeatedSetting n) words command names ss places groups n c f h h.judged.0, h.judged.1)
+fault_of_words (BadSetting n) words command names ss places groups c f h =
+    inr (command, places, groups, h.before, h.word, first_at (BadSetting n) words command names ss places groups n c f h h.judged.0, h.judged.1)
 
 -- a level that isn't one
 pub no_level_of_words : (words : List (List ℕ)) (command : Command) (names ss : List (List ℕ)) → words ≡ command_name command ∷ (names ++ ss) → IsNoLevel command names → WordsRead words (Err LevelOutOfRange)

@@ -1,5 +1,6 @@
 pub mod Settled
 pub mod Lists
+pub mod Lookups
 pub mod Numbers
 pub mod Found
 pub mod Nine

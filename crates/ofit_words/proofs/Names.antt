@@ -5,8 +5,8 @@ use Rattle.std.proofs.lemmas.List.{append_cancel_left}
 use Rattle.std.specs.Prelude.{Bool, true, false, codes, ℤ, Option, Some, None}
 use Rattle.ofit_num.proofs.Numerals.{IsWhole-number}
 use Rattle.ofit_num.proofs.DecimalTexts.{one_number}
-use Rattle.ofit_study.specs.declared.settings.LossKind.{LossKind}
-use Rattle.ofit_study.specs.declared.settings.LossKind.TheVariants as loss
+use Rattle.ofit_study.specs.declared.loss.LossKind.{LossKind}
+use Rattle.ofit_study.proofs.LossTexts.{one_name}
 use Rattle.ofit_study.specs.declared.pattern.Pattern.TheVariants as pattern
 use Rattle.ofit_words.specs.declared.command.Command.{Command}
 use Rattle.ofit_words.specs.declared.command.Command.TheVariants.{Fit, Report, Verify, Session, Unimodal, VerifyUnimodal, Levels, Sample}
@@ -15,7 +15,7 @@ use Rattle.ofit_words.specs.declared.job.OrderChoice.TheVariants.{Shaped, File}
 use Rattle.ofit_words.specs.declared.job.Kind.{Kind}
 use Rattle.ofit_words.specs.declared.job.Kind.TheVariants as kind
 use Rattle.ofit_words.specs.Commands.{command_name}
-use Rattle.ofit_words.specs.Values.{IsNumberIn, IsLoss, IsKind, IsBound, IsOrder}
+use Rattle.ofit_words.specs.Values.{IsNumberIn, IsListedLoss, IsKind, IsBound, IsOrder}
 use Rattle.ofit_words.proofs.Settled.{apart0}
 
 abbrev pick : Bool → Command → Command → Command
@@ -46,11 +46,8 @@ one_command c d e = sym (back c) ∙ ap (λ (t : List ℕ). marked (mark t)) e �
 pub one_whole : (low high : ℕ) (value : List ℕ) (m n : ℕ) → IsNumberIn low high value m → IsNumberIn low high value n → m ≡ n
 one_whole low high value m n h k = IsWhole-number value m n h.is_whole k.is_whole
 
-pub one_loss : (value : List ℕ) (x y : LossKind) → IsLoss value x → IsLoss value y → x ≡ y
-one_loss value loss.Squares loss.Squares h k = refl
-one_loss value loss.Squares loss.Median h k = absurd (apart0 _ _ _ _ refl (sym h ∙ k))
-one_loss value loss.Median loss.Squares h k = absurd (apart0 _ _ _ _ refl (sym h ∙ k))
-one_loss value loss.Median loss.Median h k = refl
+pub one_loss : (value : List ℕ) (x y : LossKind) → IsListedLoss value x → IsListedLoss value y → x ≡ y
+one_loss value x y h k = one_name value x y h.0 k.0
 
 pub one_kind : (value : List ℕ) (x y : Kind) → IsKind value x → IsKind value y → x ≡ y
 one_kind value kind.Chain kind.Chain h k = refl

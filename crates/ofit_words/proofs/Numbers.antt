@@ -1,23 +1,12 @@
 -- numbers that are in a range, or none
-use Rattle.std.proofs.Common.{◌≡◌, ℕ, ◌<◌, List, [], ◌∷◌, refl, sym, subst, arith}
-use Rattle.std.specs.Prelude.{Bool, true, false, Option, Some, None, is_some, MatchOption, MatchBool, Err, IsErrOf}
-use Rattle.ofit_num.specs.declared.whole.WholeFault.{WholeFault}
-use Rattle.ofit_num.specs.declared.whole.WholeFault.TheVariants.{NotWhole, TooLarge}
-use Rattle.ofit_num.specs.NumberText.{IsWhole}
-use Rattle.ofit_num.proofs.Numerals.{IsWhole-number}
+use Rattle.std.proofs.Common.{◌≡◌, ℕ, List, [], ◌∷◌, sym, subst}
+use Rattle.std.specs.Prelude.{Bool, true, false, Option, Some, None, is_some, MatchOption, MatchBool}
 use Rattle.ofit_words.specs.declared.command.Command.{Command}
 use Rattle.ofit_words.specs.declared.command.Command.TheVariants.{Levels}
 use Rattle.ofit_words.specs.Values.{IsNumberIn}
 use Rattle.ofit_words.specs.Words.{IsLevel}
 use Rattle.ofit_words.specs.Made.{IsNoLevel}
 use Rattle.ofit_words.proofs.Settled.{not_true, not_false}
-
-pub no_number : (text bytes : List ℕ) (low high limit : ℕ) (fault : WholeFault) → bytes ≡ text → limit ≡ high → (IsErrOf {T = ℕ} (Err fault) NotWhole → (n : ℕ) → IsWhole bytes n → ⊥)
-    → (IsErrOf {T = ℕ} (Err fault) TooLarge → (n : ℕ) × IsWhole bytes n × (limit < n)) → (n : ℕ) → IsNumberIn low high text n → ⊥
-no_number text bytes low high limit NotWhole e l a b n i = a refl n (let P : List ℕ → Type 0 = λ t. IsWhole t n in subst P (sym e) i.is_whole)
-no_number text bytes low high limit TooLarge e l a b n i =
-    let large : (n : ℕ) × IsWhole bytes n × (limit < n) = b refl in
-    omega (arith, IsWhole-number bytes large.0 n large.1 (let P : List ℕ → Type 0 = λ t. IsWhole t n in subst P (sym e) i.is_whole), large.2, i.at_most)
 
 -- the key may have the value exactly where it is read
 pub good_if : {A : Type 0} (P : A → Type 0) (r : Option A) (b : Bool) → b ≡ is_some r → MatchOption r ((x : A) → P x → ⊥) P → MatchBool b ((x : A) × P x) (((x : A) × P x) → ⊥)

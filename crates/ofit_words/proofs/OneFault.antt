@@ -1,7 +1,8 @@
 -- Settings have one first fault.
-use Rattle.std.proofs.Common.{◌≡◌, ℕ, ◌+◌, List, [], ◌∷◌, ◌++◌, length, refl, sym, ap, ap₂, ◌∙◌, subst, append_assoc, inl, inr}
+use Rattle.std.proofs.Common.{◌≡◌, ℕ, ◌+◌, List, [], ◌∷◌, ◌++◌, length, sym, ◌∙◌, subst, append_assoc, inl, inr}
 use Rattle.std.proofs.lemmas.List.{append-nil}
 use Rattle.std.specs.Prelude.{◌⊎◌}
+use Rattle.ofit_num.proofs.Partings.{Parting, at_one, first_shorter, parted, second_shorter}
 use Rattle.ofit_words.specs.declared.command.Command.{Command}
 use Rattle.ofit_words.specs.declared.key.Key.{Key}
 use Rattle.ofit_words.specs.declared.fault.WordFault.{WordFault}
@@ -10,7 +11,7 @@ use Rattle.ofit_words.specs.Commands.{name_count, Sets}
 use Rattle.ofit_words.specs.Values.{IsGood}
 use Rattle.ofit_words.specs.Given.{NoneSets, IsUnknown, IsRepeated, IsBad, IsFine, AreFine}
 use Rattle.ofit_words.proofs.Settled.{one_setting}
-use Rattle.ofit_words.proofs.OneValue.{first_is, rest_is, no_value}
+use Rattle.ofit_words.proofs.OneValue.{no_value}
 
 one_key : (word : List ℕ) (k l : Key) (v w : List ℕ) → Sets word k v → Sets word l w → (k ≡ l) × (v ≡ w)
 one_key word k l v w s t = one_setting k l v w (sym s ∙ t)
@@ -61,22 +62,6 @@ pub record IsFirst (command : Command) (places groups : ℕ) (words : List (List
   pub fine : AreFine command places groups [] before
   pub found : IsFault command places groups before word (1 + name_count command + length before) fault
 
--- two cuts of a list are at one place, or one of them is in the front of the other
-abbrev AreCut : {X : Type 0} → List X → List X → X → X → Type 0
-AreCut {X} front back x y = ((front ≡ back) × (x ≡ y)) ⊎ (((rest : List X) × (back ≡ front ++ x ∷ rest)) ⊎ ((rest : List X) × (front ≡ back ++ y ∷ rest)))
-
-cut_more : {X : Type 0} (a b : X) (front back : List X) (x y : X) → a ≡ b → AreCut front back x y → AreCut (a ∷ front) (b ∷ back) x y
-cut_more a b front back x y e (inl h) = inl (ap₂ (λ c cs. c ∷ cs) e h.0, h.1)
-cut_more a b front back x y e (inr (inl h)) = inr (inl (h.0, ap₂ (λ c cs. c ∷ cs) (sym e) h.1))
-cut_more a b front back x y e (inr (inr h)) = inr (inr (h.0, ap₂ (λ c cs. c ∷ cs) e h.1))
-
-cuts : {X : Type 0} (front back after behind : List X) (x y : X) → front ++ x ∷ after ≡ back ++ y ∷ behind → AreCut front back x y
-cuts [] [] after behind x y e = inl (refl, first_is x y after behind e)
-cuts [] (b ∷ bs) after behind x y e = inr (inl (bs, ap (λ c. c ∷ bs) (sym (first_is x b after (bs ++ y ∷ behind) e))))
-cuts (a ∷ fs) [] after behind x y e = inr (inr (fs, ap (λ c. c ∷ fs) (first_is a y (fs ++ x ∷ after) behind e)))
-cuts (a ∷ fs) (b ∷ bs) after behind x y e =
-    cut_more a b fs bs x y (first_is a b (fs ++ x ∷ after) (bs ++ y ∷ behind) e) (cuts fs bs after behind x y (rest_is a b (fs ++ x ∷ after) (bs ++ y ∷ behind) e))
-
 -- each of the settings that have no fault has none behind those before it
 fine_at : (command : Command) (places groups : ℕ) (start front : List (List ℕ)) (word : List ℕ) (after : List (List ℕ)) → AreFine command places groups start (front ++ word ∷ after)
     → IsFine command places groups (start ++ front) word
@@ -91,16 +76,16 @@ fine_or_first command places groups words fault f h =
     fine_or_fault command places groups h.before h.word _ fault (fine_at command places groups [] h.before h.word h.after (subst P h.spells f)) h.found
 
 pub one_first : (command : Command) (places groups : ℕ) (words : List (List ℕ)) (f h : WordFault) → IsFirst command places groups words f → IsFirst command places groups words h → f ≡ h
-one_first command places groups words f h x y = by_cut (cuts x.before y.before x.after y.after x.word y.word (sym x.spells ∙ y.spells))
+one_first command places groups words f h x y = by_cut (parted x.before y.before x.after y.after x.word y.word (sym x.spells ∙ y.spells))
   where
-    by_cut : AreCut x.before y.before x.word y.word → f ≡ h
-    by_cut (inl e) =
+    by_cut : Parting x.before y.before x.word y.word → f ≡ h
+    by_cut (at_one same word) =
         let P : List (List ℕ) → Type 0 = λ b. IsFault command places groups b x.word (1 + name_count command + length b) f in
         let Q : List ℕ → Type 0 = λ w. IsFault command places groups y.before w (1 + name_count command + length y.before) f in
-        one_kind command places groups y.before y.word (1 + name_count command + length y.before) f h (subst Q e.1 (subst P e.0 x.found)) y.found
-    by_cut (inr (inl (rest, e))) =
+        one_kind command places groups y.before y.word (1 + name_count command + length y.before) f h (subst Q word (subst P same x.found)) y.found
+    by_cut (first_shorter rest e) =
         let P : List (List ℕ) → Type 0 = AreFine command places groups [] in
         absurd (fine_or_fault command places groups x.before x.word _ f (fine_at command places groups [] x.before x.word rest (subst P e y.fine)) x.found)
-    by_cut (inr (inr (rest, e))) =
+    by_cut (second_shorter rest e) =
         let P : List (List ℕ) → Type 0 = AreFine command places groups [] in
         absurd (fine_or_fault command places groups y.before y.word _ h (fine_at command places groups [] y.before y.word rest (subst P e x.fine)) y.found)

@@ -2,8 +2,9 @@
 use Rattle.std.proofs.Common.{◌≡◌, ℕ, List, [], ◌∷◌, ◌++◌, refl, sym, ap, ap₂, ◌∙◌, subst, arith}
 use Rattle.std.proofs.lemmas.Int.{ints}
 use Rattle.std.specs.Prelude.{false, ℤ, Option, Some, None}
-use Rattle.ofit_study.specs.declared.settings.LossKind.{LossKind}
-use Rattle.ofit_study.specs.declared.settings.LossKind.TheVariants as loss
+use Rattle.ofit_num.proofs.Partings.{head_same, tail_same}
+use Rattle.ofit_study.specs.declared.loss.LossKind.{LossKind}
+use Rattle.ofit_study.specs.declared.loss.LossKind.TheVariants as loss
 use Rattle.ofit_study.specs.declared.settings.Settings.{Settings}
 use Rattle.ofit_study.specs.declared.pattern.Pattern.TheVariants as pattern
 use Rattle.ofit_study.specs.Settings.{InOrder}
@@ -20,13 +21,13 @@ use Rattle.ofit_words.specs.declared.job.SampleJob.{SampleJob}
 use Rattle.ofit_words.specs.declared.job.Job.{Job}
 use Rattle.ofit_words.specs.declared.job.Job.TheVariants.{Fit, Report, Verify, Session, Unimodal, VerifyUnimodal, Levels, Sample}
 use Rattle.ofit_words.specs.Commands.{has_key}
-use Rattle.ofit_words.specs.Values.{IsNumberIn, IsLoss, IsKind, IsBound, IsOrder}
+use Rattle.ofit_words.specs.Values.{IsNumberIn, IsListedLoss, IsKind, IsBound, IsOrder}
 use Rattle.ofit_words.specs.Given.{NoneSets, InForce, AreFine}
 use Rattle.ofit_words.specs.Words.{IsLevel, Cross, InputsOf, SampleOf, IsJob}
 use Rattle.ofit_words.specs.Made.{DoCross}
 use Rattle.ofit_words.proofs.Settled.{one_setting, not_false}
 use Rattle.ofit_words.proofs.Names.{one_whole, one_loss, one_kind, one_bound, one_order}
-use Rattle.ofit_words.proofs.OneValue.{first_is, rest_is, one_in_force, one_settings}
+use Rattle.ofit_words.proofs.OneValue.{one_in_force, one_settings}
 
 one_places : (words : List (List ℕ)) (p q : ℕ) → InForce words Places (IsNumberIn 0 6) 3 p → InForce words Places (IsNumberIn 0 6) 3 q → p ≡ q
 one_places words = one_in_force (IsNumberIn 0 6) words Places 3 (one_whole 0 6)
@@ -46,15 +47,15 @@ one_sample words x y h k =
     let rows : x.rows ≡ y.rows = one_in_force (IsNumberIn x.groups 10000) words Rows x.groups (one_whole x.groups 10000) x.rows y.rows h.rows (subst P (sym groups) k.rows) in
     let seed : x.seed ≡ y.seed = one_in_force (IsNumberIn 0 4294967295) words Seed 1 (one_whole 0 4294967295) x.seed y.seed h.seed k.seed in
     let shape : x.kind ≡ y.kind = one_in_force IsKind words Shape kind.General one_kind x.kind y.kind h.kind k.kind in
-    let losses : x.loss ≡ y.loss = one_in_force IsLoss words Loss loss.Squares one_loss x.loss y.loss h.loss k.loss in
+    let losses : x.loss ≡ y.loss = one_in_force IsListedLoss words Loss loss.Squares one_loss x.loss y.loss h.loss k.loss in
     ap₂ (λ (s g : ℕ). make s g x.rows x.kind x.loss) seed groups
     ∙ ap₂ (λ (r : ℕ) (t : Kind). make y.seed y.groups r t x.loss) rows shape ∙ ap (λ (l : LossKind). make y.seed y.groups y.rows y.kind l) losses
 
 one_name : (names : List (List ℕ)) (s t : List ℕ) → names ≡ s ∷ [] → names ≡ t ∷ [] → s ≡ t
-one_name names s t e d = first_is s t [] [] (sym e ∙ d)
+one_name names s t e d = head_same s t [] [] (sym e ∙ d)
 
 two_names : (names : List (List ℕ)) (s t u v : List ℕ) → names ≡ s ∷ u ∷ [] → names ≡ t ∷ v ∷ [] → (s ≡ t) × (u ≡ v)
-two_names names s t u v e d = (first_is s t (u ∷ []) (v ∷ []) (sym e ∙ d), first_is u v [] [] (rest_is s t (u ∷ []) (v ∷ []) (sym e ∙ d)))
+two_names names s t u v e d = (head_same s t (u ∷ []) (v ∷ []) (sym e ∙ d), head_same u v [] [] (tail_same s t (u ∷ []) (v ∷ []) (sym e ∙ d)))
 
 pub one_level : (names : List (List ℕ)) (k l : ℕ) → IsLevel names k → IsLevel names l → k ≡ l
 one_level names k l h i =

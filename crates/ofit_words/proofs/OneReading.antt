@@ -1,6 +1,7 @@
 -- Words have one reading.
 use Rattle.std.proofs.Common.{◌≡◌, ℕ, ◌+◌, ◌<◌, List, [], ◌∷◌, ◌++◌, length, length-append, refl, sym, ap, ap₂, ◌∙◌, subst, arith, inl, inr}
 use Rattle.std.specs.Prelude.{Result, Ok, Err, ◌⊎◌}
+use Rattle.ofit_num.proofs.Partings.{head_same, tail_same}
 use Rattle.ofit_words.specs.declared.command.Command.{Command}
 use Rattle.ofit_words.specs.declared.command.Command.TheVariants as commands
 use Rattle.ofit_words.specs.declared.job.Job.{Job}
@@ -12,7 +13,7 @@ use Rattle.ofit_words.specs.Given.{AreInForce, AreFine}
 use Rattle.ofit_words.specs.Words.{IsLevel, FirstAt, AllFine, IsJob, WordsRead}
 use Rattle.ofit_words.specs.Made.{IsNoLevel, DoCross}
 use Rattle.ofit_words.proofs.Names.{one_command}
-use Rattle.ofit_words.proofs.OneValue.{first_is, rest_is, one_force}
+use Rattle.ofit_words.proofs.OneValue.{one_force}
 use Rattle.ofit_words.proofs.OneFault.{IsFault, IsFirst, fine_or_first, one_first}
 use Rattle.ofit_words.proofs.OneJob.{one_job, crossed_or_job}
 
@@ -69,7 +70,7 @@ no_level_or_level : (c : Command) (names : List (List ℕ)) → IsNoLevel c name
 no_level_or_level c names (e, (level, n, no_number)) h = by_level (h e)
   where
     by_level : ((k : ℕ) × IsLevel names k) → ⊥
-    by_level (k, (other, m, i)) = let P : List ℕ → Type 0 = λ s. IsNumberIn 1 34 s k in no_number k (subst P (first_is other level [] [] (sym m ∙ n)) i)
+    by_level (k, (other, m, i)) = let P : List ℕ → Type 0 = λ s. IsNumberIn 1 34 s k in no_number k (subst P (head_same other level [] [] (sym m ∙ n)) i)
 
 one_levelled : (c : Command) (names words : List (List ℕ)) (r t : Result Job WordFault) → IsLevelled c names words r → IsLevelled c names words t → r ≡ t
 one_levelled c names words r t (inl x) (inl y) = x.0 ∙ sym y.0
@@ -81,10 +82,10 @@ same_fronts : {X : Type 0} (xs ys us vs : List X) → xs ++ us ≡ ys ++ vs → 
 same_fronts [] [] us vs e l = (refl, e)
 same_fronts [] (y ∷ ys) us vs e l = absurd (omega arith)
 same_fronts (x ∷ xs) [] us vs e l = absurd (omega arith)
-same_fronts (x ∷ xs) (y ∷ ys) us vs e l = same_more (same_fronts xs ys us vs (rest_is x y (xs ++ us) (ys ++ vs) e) (omega arith))
+same_fronts (x ∷ xs) (y ∷ ys) us vs e l = same_more (same_fronts xs ys us vs (tail_same x y (xs ++ us) (ys ++ vs) e) (omega arith))
   where
     same_more : (xs ≡ ys) × (us ≡ vs) → (x ∷ xs ≡ y ∷ ys) × (us ≡ vs)
-    same_more h = (ap₂ (λ z zs. z ∷ zs) (first_is x y (xs ++ us) (ys ++ vs) e) h.0, h.1)
+    same_more h = (ap₂ (λ z zs. z ∷ zs) (head_same x y (xs ++ us) (ys ++ vs) e) h.0, h.1)
 
 one_named : (c : Command) (rest : List (List ℕ)) (r t : Result Job WordFault) → AreNamed c rest r → AreNamed c rest t → r ≡ t
 one_named c rest r t (inl x) (inl y) = x.0 ∙ sym y.0

@@ -1,24 +1,19 @@
 -- Words give a key one value, which is read in one way.
 use Rattle.std.proofs.Common.{◌≡◌, ℕ, List, [], ◌∷◌, ◌++◌, refl, sym, ap, ap₂, ◌∙◌, subst, inl, inr}
 use Rattle.std.specs.Prelude.{ℤ, Option, Some, None}
-use Rattle.ofit_study.specs.declared.settings.LossKind.{LossKind}
-use Rattle.ofit_study.specs.declared.settings.LossKind.TheVariants as loss
+use Rattle.ofit_num.proofs.Partings.{head_same, tail_same}
+use Rattle.ofit_study.specs.declared.loss.LossKind.{LossKind}
+use Rattle.ofit_study.specs.declared.loss.LossKind.TheVariants as loss
 use Rattle.ofit_study.specs.declared.settings.Settings.{Settings}
 use Rattle.ofit_words.specs.declared.key.Key.{Key}
 use Rattle.ofit_words.specs.declared.key.Key.TheVariants.{Loss, Places, Lo, Hi, Groups}
 use Rattle.ofit_words.specs.Commands.{Sets}
-use Rattle.ofit_words.specs.Values.{IsNumberIn, IsLoss, IsBound}
+use Rattle.ofit_words.specs.Values.{IsNumberIn, IsListedLoss, IsBound}
 use Rattle.ofit_words.specs.Given.{NoneSets, Given, IsReadAs, InForce, AreInForce}
 use Rattle.ofit_words.specs.Words.{SettingsOf}
 use Rattle.ofit_words.proofs.Settled.{one_setting}
 use Rattle.ofit_words.proofs.Nine.{none_at}
 use Rattle.ofit_words.proofs.Names.{one_whole, one_loss, one_bound}
-
-pub first_is : {X : Type 0} (b c : X) (bs cs : List X) → b ∷ bs ≡ c ∷ cs → b ≡ c
-first_is b c bs cs e = cc
-
-pub rest_is : {X : Type 0} (b c : X) (bs cs : List X) → b ∷ bs ≡ c ∷ cs → bs ≡ cs
-rest_is b c bs cs e = cc
 
 -- where none sets the key, none gives it a value
 pub no_value : (words : List (List ℕ)) (key : Key) (value : List ℕ) → NoneSets words key → Given words key (Some value) → ⊥
@@ -29,11 +24,11 @@ no_value words key value h (before, word, after, e, s, n) =
 -- the first word of two cuts that sets the key
 same_value : (before front after back : List (List ℕ)) (word other : List ℕ) (key : Key) (value given : List ℕ) → before ++ word ∷ after ≡ front ++ other ∷ back → Sets word key value → Sets other key given
     → NoneSets before key → NoneSets front key → value ≡ given
-same_value [] [] after back word other key value given e s t n m = (one_setting key key value given (sym s ∙ first_is word other after back e ∙ t)).1
-same_value [] (x ∷ xs) after back word other key value given e s t n m = absurd (m.0 value (sym (first_is word x after (xs ++ other ∷ back) e) ∙ s))
-same_value (x ∷ xs) [] after back word other key value given e s t n m = absurd (n.0 given (first_is x other (xs ++ word ∷ after) back e ∙ t))
+same_value [] [] after back word other key value given e s t n m = (one_setting key key value given (sym s ∙ head_same word other after back e ∙ t)).1
+same_value [] (x ∷ xs) after back word other key value given e s t n m = absurd (m.0 value (sym (head_same word x after (xs ++ other ∷ back) e) ∙ s))
+same_value (x ∷ xs) [] after back word other key value given e s t n m = absurd (n.0 given (head_same x other (xs ++ word ∷ after) back e ∙ t))
 same_value (x ∷ xs) (y ∷ ys) after back word other key value given e s t n m =
-    same_value xs ys after back word other key value given (rest_is x y (xs ++ word ∷ after) (ys ++ other ∷ back) e) s t n.1 m.1
+    same_value xs ys after back word other key value given (tail_same x y (xs ++ word ∷ after) (ys ++ other ∷ back) e) s t n.1 m.1
 
 pub one_given : (words : List (List ℕ)) (key : Key) (r t : Option (List ℕ)) → Given words key r → Given words key t → r ≡ t
 one_given words key None None h k = refl
@@ -67,7 +62,7 @@ one_settings words s t h k =
     let same : s.places ≡ t.places = one_in_force (IsNumberIn 0 6) words Places 3 (one_whole 0 6) s.places t.places h.places k.places in
     let make : LossKind → ℕ → Option ℤ → Option ℤ → Settings = λ l p a b. record { loss = l; places = p; lo = a; hi = b } in
     let P : Key → Option ℤ → ℕ → Type 0 = λ key x p. InForce words key (IsBound p) None x in
-    let loss_is : s.loss ≡ t.loss = one_in_force IsLoss words Loss loss.Squares one_loss s.loss t.loss h.loss k.loss in
+    let loss_is : s.loss ≡ t.loss = one_in_force IsListedLoss words Loss loss.Squares one_loss s.loss t.loss h.loss k.loss in
     let lo_is : s.lo ≡ t.lo = one_in_force (IsBound s.places) words Lo None (one_bound s.places) s.lo t.lo h.lo (subst (P Lo t.lo) (sym same) k.lo) in
     let hi_is : s.hi ≡ t.hi = one_in_force (IsBound s.places) words Hi None (one_bound s.places) s.hi t.hi h.hi (subst (P Hi t.hi) (sym same) k.hi) in
     ap₂ (λ (l : LossKind) (p : ℕ). make l p s.lo s.hi) loss_is same ∙ ap₂ (λ (a b : Option ℤ). make t.loss t.places a b) lo_is hi_is

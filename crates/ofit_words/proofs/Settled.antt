@@ -1,9 +1,11 @@
 -- A word sets one key to one value.
-use Rattle.std.proofs.Common.{◌≡◌, ℕ, List, [], ◌∷◌, ◌++◌, refl, sym, ap, ◌∙◌, append_assoc}
+use Rattle.std.proofs.Common.{◌≡◌, ◌≢◌, ◌<◌, ℕ, zero, suc, List, [], ◌∷◌, ◌++◌, length, get_or, refl, sym, ap, ap₂, ◌∙◌, arith, Bool, cond}
 use Rattle.std.proofs.Math.Dec.{eqb}
 use Rattle.std.proofs.lemmas.Bool.{eq-eqb}
-use Rattle.std.proofs.lemmas.List.{append_cancel_left}
-use Rattle.std.specs.Prelude.{true, false, codes, Option, Some, None, MatchOption}
+use Rattle.std.specs.Cmp.Lexicographic.{pointwise}
+use Rattle.std.specs.List.{AllByRecursion}
+use Rattle.std.specs.Prelude.{true, false, codes, nat_eq}
+use Rattle.ofit_num.proofs.Partings.{head_same, tail_same}
 use Rattle.ofit_words.specs.declared.key.Key.{Key}
 use Rattle.ofit_words.specs.declared.key.Key.TheVariants.{Order, Loss, Places, Lo, Hi, Seed, Groups, Rows, Shape}
 use Rattle.ofit_words.specs.Commands.{key_name}
@@ -14,107 +16,60 @@ not_true e = cc
 pub not_false : true ≡ false → ⊥
 not_false e = cc
 
-head_of : (b c : ℕ) (bs cs : List ℕ) → b ∷ bs ≡ c ∷ cs → b ≡ c
-head_of b c bs cs e = cc
-
-tail_of : (b c : ℕ) (bs cs : List ℕ) → b ∷ bs ≡ c ∷ cs → bs ≡ cs
-tail_of b c bs cs e = cc
-
 pub apart0 : (b c : ℕ) (bs cs : List ℕ) → eqb b c ≡ false → b ∷ bs ≡ c ∷ cs → ⊥
-apart0 b c bs cs h e = not_false (sym (eq-eqb b c (head_of b c bs cs e)) ∙ h)
+apart0 b c bs cs h e = not_false (sym (eq-eqb b c (head_same b c bs cs e)) ∙ h)
 
-apart1 : (a d b c : ℕ) (bs cs : List ℕ) → eqb b c ≡ false → a ∷ (b ∷ bs) ≡ d ∷ (c ∷ cs) → ⊥
-apart1 a d b c bs cs h e = apart0 b c bs cs h (tail_of a d (b ∷ bs) (c ∷ cs) e)
+abbrev is_text : List ℕ → List ℕ → Bool
+is_text = pointwise nat_eq
 
-apart2 : (i j a d b c : ℕ) (bs cs : List ℕ) → eqb b c ≡ false → i ∷ (a ∷ (b ∷ bs)) ≡ j ∷ (d ∷ (c ∷ cs)) → ⊥
-apart2 i j a d b c bs cs h e = apart1 a d b c bs cs h (tail_of i j (a ∷ (b ∷ bs)) (d ∷ (c ∷ cs)) e)
+-- the key of this name
+abbrev keyed : List ℕ → Key
+keyed t = cond (is_text t (codes "order")) Order (cond (is_text t (codes "loss")) Loss (cond (is_text t (codes "places")) Places (cond (is_text t (codes "lo")) Lo (cond (is_text t (codes "hi")) Hi
+    (cond (is_text t (codes "seed")) Seed (cond (is_text t (codes "groups")) Groups (cond (is_text t (codes "rows")) Rows Shape)))))))
+
+back : (k : Key) → keyed (key_name k) ≡ k
+back Order = refl
+back Loss = refl
+back Places = refl
+back Lo = refl
+back Hi = refl
+back Seed = refl
+back Groups = refl
+back Rows = refl
+back Shape = refl
+
+-- no key's name has a `=`
+abbrev pub IsUncut : List ℕ → Type 0
+IsUncut text = AllByRecursion (λ b. eqb b 61 ≡ false) text
+
+uncut : (k : Key) → IsUncut (key_name k)
+uncut Order = (refl, (refl, (refl, (refl, (refl, tt)))))
+uncut Loss = (refl, (refl, (refl, (refl, tt))))
+uncut Places = (refl, (refl, (refl, (refl, (refl, (refl, tt))))))
+uncut Lo = (refl, (refl, tt))
+uncut Hi = (refl, (refl, tt))
+uncut Seed = (refl, (refl, (refl, (refl, tt))))
+uncut Groups = (refl, (refl, (refl, (refl, (refl, (refl, tt))))))
+uncut Rows = (refl, (refl, (refl, (refl, tt))))
+uncut Shape = (refl, (refl, (refl, (refl, (refl, tt)))))
+
+free_at : (xs : List ℕ) → IsUncut xs → (i : ℕ) → i < length xs → get_or xs i 0 ≢ 61
+free_at [] h i l = absurd (omega arith)
+free_at (x ∷ xs) h zero l = λ e. not_false (sym (eq-eqb x 61 e) ∙ h.0)
+free_at (x ∷ xs) h (suc i) l = free_at xs h.1 i (omega arith)
+
+pub name_free : (k : Key) (i : ℕ) → i < length (key_name k) → get_or (key_name k) i 0 ≢ 61
+name_free k = free_at (key_name k) (uncut k)
+
+one_cut : (xs ys v w : List ℕ) → IsUncut xs → IsUncut ys → xs ++ 61 ∷ v ≡ ys ++ 61 ∷ w → (xs ≡ ys) × (v ≡ w)
+one_cut [] [] v w f g e = (refl, tail_same 61 61 v w e)
+one_cut [] (y ∷ ys) v w f g e = absurd (not_false (sym (eq-eqb y 61 (sym (head_same 61 y v (ys ++ 61 ∷ w) e))) ∙ g.0))
+one_cut (x ∷ xs) [] v w f g e = absurd (not_false (sym (eq-eqb x 61 (head_same x 61 (xs ++ 61 ∷ v) w e)) ∙ f.0))
+one_cut (x ∷ xs) (y ∷ ys) v w f g e =
+    let rest : (xs ≡ ys) × (v ≡ w) = one_cut xs ys v w f.1 g.1 (tail_same x y (xs ++ 61 ∷ v) (ys ++ 61 ∷ w) e) in
+    (ap₂ (λ (z : ℕ) (zs : List ℕ). z ∷ zs) (head_same x y (xs ++ 61 ∷ v) (ys ++ 61 ∷ w) e) rest.0, rest.1)
 
 pub one_setting : (k l : Key) (v w : List ℕ) → key_name k ++ 61 ∷ v ≡ key_name l ++ 61 ∷ w → (k ≡ l) × (v ≡ w)
-one_setting Order Order v w e = (refl, append_cancel_left (codes "order=") v w e)
-one_setting Order Loss v w e = absurd (apart0 _ _ _ _ refl e)
-one_setting Order Places v w e = absurd (apart0 _ _ _ _ refl e)
-one_setting Order Lo v w e = absurd (apart0 _ _ _ _ refl e)
-one_setting Order Hi v w e = absurd (apart0 _ _ _ _ refl e)
-one_setting Order Seed v w e = absurd (apart0 _ _ _ _ refl e)
-one_setting Order Groups v w e = absurd (apart0 _ _ _ _ refl e)
-one_setting Order Rows v w e = absurd (apart0 _ _ _ _ refl e)
-one_setting Order Shape v w e = absurd (apart0 _ _ _ _ refl e)
-one_setting Loss Order v w e = absurd (apart0 _ _ _ _ refl e)
-one_setting Loss Loss v w e = (refl, append_cancel_left (codes "loss=") v w e)
-one_setting Loss Places v w e = absurd (apart0 _ _ _ _ refl e)
-one_setting Loss Lo v w e = absurd (apart2 _ _ _ _ _ _ _ _ refl e)
-one_setting Loss Hi v w e = absurd (apart0 _ _ _ _ refl e)
-one_setting Loss Seed v w e = absurd (apart0 _ _ _ _ refl e)
-one_setting Loss Groups v w e = absurd (apart0 _ _ _ _ refl e)
-one_setting Loss Rows v w e = absurd (apart0 _ _ _ _ refl e)
-one_setting Loss Shape v w e = absurd (apart0 _ _ _ _ refl e)
-one_setting Places Order v w e = absurd (apart0 _ _ _ _ refl e)
-one_setting Places Loss v w e = absurd (apart0 _ _ _ _ refl e)
-one_setting Places Places v w e = (refl, append_cancel_left (codes "places=") v w e)
-one_setting Places Lo v w e = absurd (apart0 _ _ _ _ refl e)
-one_setting Places Hi v w e = absurd (apart0 _ _ _ _ refl e)
-one_setting Places Seed v w e = absurd (apart0 _ _ _ _ refl e)
-one_setting Places Groups v w e = absurd (apart0 _ _ _ _ refl e)
-one_setting Places Rows v w e = absurd (apart0 _ _ _ _ refl e)
-one_setting Places Shape v w e = absurd (apart0 _ _ _ _ refl e)
-one_setting Lo Order v w e = absurd (apart0 _ _ _ _ refl e)
-one_setting Lo Loss v w e = absurd (apart2 _ _ _ _ _ _ _ _ refl e)
-one_setting Lo Places v w e = absurd (apart0 _ _ _ _ refl e)
-one_setting Lo Lo v w e = (refl, append_cancel_left (codes "lo=") v w e)
-one_setting Lo Hi v w e = absurd (apart0 _ _ _ _ refl e)
-one_setting Lo Seed v w e = absurd (apart0 _ _ _ _ refl e)
-one_setting Lo Groups v w e = absurd (apart0 _ _ _ _ refl e)
-one_setting Lo Rows v w e = absurd (apart0 _ _ _ _ refl e)
-one_setting Lo Shape v w e = absurd (apart0 _ _ _ _ refl e)
-one_setting Hi Order v w e = absurd (apart0 _ _ _ _ refl e)
-one_setting Hi Loss v w e = absurd (apart0 _ _ _ _ refl e)
-one_setting Hi Places v w e = absurd (apart0 _ _ _ _ refl e)
-one_setting Hi Lo v w e = absurd (apart0 _ _ _ _ refl e)
-one_setting Hi Hi v w e = (refl, append_cancel_left (codes "hi=") v w e)
-one_setting Hi Seed v w e = absurd (apart0 _ _ _ _ refl e)
-one_setting Hi Groups v w e = absurd (apart0 _ _ _ _ refl e)
-one_setting Hi Rows v w e = absurd (apart0 _ _ _ _ refl e)
-one_setting Hi Shape v w e = absurd (apart0 _ _ _ _ refl e)
-one_setting Seed Order v w e = absurd (apart0 _ _ _ _ refl e)
-one_setting Seed Loss v w e = absurd (apart0 _ _ _ _ refl e)
-one_setting Seed Places v w e = absurd (apart0 _ _ _ _ refl e)
-one_setting Seed Lo v w e = absurd (apart0 _ _ _ _ refl e)
-one_setting Seed Hi v w e = absurd (apart0 _ _ _ _ refl e)
-one_setting Seed Seed v w e = (refl, append_cancel_left (codes "seed=") v w e)
-one_setting Seed Groups v w e = absurd (apart0 _ _ _ _ refl e)
-one_setting Seed Rows v w e = absurd (apart0 _ _ _ _ refl e)
-one_setting Seed Shape v w e = absurd (apart1 _ _ _ _ _ _ refl e)
-one_setting Groups Order v w e = absurd (apart0 _ _ _ _ refl e)
-one_setting Groups Loss v w e = absurd (apart0 _ _ _ _ refl e)
-one_setting Groups Places v w e = absurd (apart0 _ _ _ _ refl e)
-one_setting Groups Lo v w e = absurd (apart0 _ _ _ _ refl e)
-one_setting Groups Hi v w e = absurd (apart0 _ _ _ _ refl e)
-one_setting Groups Seed v w e = absurd (apart0 _ _ _ _ refl e)
-one_setting Groups Groups v w e = (refl, append_cancel_left (codes "groups=") v w e)
-one_setting Groups Rows v w e = absurd (apart0 _ _ _ _ refl e)
-one_setting Groups Shape v w e = absurd (apart0 _ _ _ _ refl e)
-one_setting Rows Order v w e = absurd (apart0 _ _ _ _ refl e)
-one_setting Rows Loss v w e = absurd (apart0 _ _ _ _ refl e)
-one_setting Rows Places v w e = absurd (apart0 _ _ _ _ refl e)
-one_setting Rows Lo v w e = absurd (apart0 _ _ _ _ refl e)
-one_setting Rows Hi v w e = absurd (apart0 _ _ _ _ refl e)
-one_setting Rows Seed v w e = absurd (apart0 _ _ _ _ refl e)
-one_setting Rows Groups v w e = absurd (apart0 _ _ _ _ refl e)
-one_setting Rows Rows v w e = (refl, append_cancel_left (codes "rows=") v w e)
-one_setting Rows Shape v w e = absurd (apart0 _ _ _ _ refl e)
-one_setting Shape Order v w e = absurd (apart0 _ _ _ _ refl e)
-one_setting Shape Loss v w e = absurd (apart0 _ _ _ _ refl e)
-one_setting Shape Places v w e = absurd (apart0 _ _ _ _ refl e)
-one_setting Shape Lo v w e = absurd (apart0 _ _ _ _ refl e)
-one_setting Shape Hi v w e = absurd (apart0 _ _ _ _ refl e)
-one_setting Shape Seed v w e = absurd (apart1 _ _ _ _ _ _ refl e)
-one_setting Shape Groups v w e = absurd (apart0 _ _ _ _ refl e)
-one_setting Shape Rows v w e = absurd (apart0 _ _ _ _ refl e)
-one_setting Shape Shape v w e = (refl, append_cancel_left (codes "shape=") v w e)
-
--- what follows the key and its `=` is the value
-pub sets_after : {X : Type 0} (now : X → List ℕ) (r : Option X) (word name front : List ℕ) → front ≡ name ++ 61 ∷ []
-    → MatchOption r ((rest : List ℕ) → word ≡ front ++ rest → ⊥) (λ x. word ≡ front ++ now x)
-    → MatchOption r ((value : List ℕ) → word ≡ name ++ 61 ∷ value → ⊥) (λ x. word ≡ name ++ 61 ∷ now x)
-sets_after now (Some x) word name front e h = h ∙ ap (λ (t : List ℕ). t ++ now x) e ∙ append_assoc name (61 ∷ []) (now x)
-sets_after now None word name front e h = λ value s. h value (s ∙ sym (append_assoc name (61 ∷ []) value) ∙ ap (λ (t : List ℕ). t ++ value) (sym e))
+one_setting k l v w e =
+    let cut : (key_name k ≡ key_name l) × (v ≡ w) = one_cut (key_name k) (key_name l) v w (uncut k) (uncut l) e in
+    (sym (back k) ∙ ap keyed cut.0 ∙ back l, cut.1)

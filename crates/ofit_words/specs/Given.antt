@@ -1,6 +1,7 @@
 -- What the settings give: the values of their keys, and the faults of a single one.
 use Rattle.std.specs.Prelude.{◌≡◌, ℕ, true, List, [], ◌∷◌, ◌++◌, Option, Some, None, ◌⊎◌, ⊤}
 use Rattle.std.specs.List.{AllByRecursion}
+use Rattle.ofit_num.specs.declared.limits.TheConstants.{MOST_GROUPS}
 use Rattle.ofit_words.specs.declared.command.Command.{Command}
 use Rattle.ofit_words.specs.declared.key.Key.{Key}
 use Rattle.ofit_words.specs.declared.key.Key.TheVariants.{Places, Groups}
@@ -29,7 +30,7 @@ InForce words key P default x = (given : Option (List ℕ)) × Given words key g
 -- the places and the count of groups in force
 pub record AreInForce (words : List (List ℕ)) (places groups : ℕ) : Type 0 where
   pub for_places : InForce words Places (IsNumberIn 0 6) 3 places
-  pub for_groups : InForce words Groups (IsNumberIn 1 2000) 100 groups
+  pub for_groups : InForce words Groups (IsNumberIn 1 MOST_GROUPS) 100 groups
 
 -- the word has no `=`, or the command doesn't have its key
 abbrev pub IsUnknown : Command → List ℕ → Type 0

@@ -1,6 +1,7 @@
 pub mod Commands
 pub mod Values
 pub mod Given
+pub mod Read
 pub mod Words
 pub mod Judged
 pub mod Made

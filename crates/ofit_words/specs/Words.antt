@@ -1,8 +1,10 @@
 -- What the words of a call are read as: a job, or the first fault.
 use Rattle.std.specs.Prelude.{◌≡◌, ℕ, ◌+◌, ◌≤◌, ◌<◌, List, [], ◌∷◌, ◌++◌, length, Option, Some, None, Result, Ok, Err, ℤ, ◌<ℤ◌}
-use Rattle.ofit_study.specs.declared.settings.LossKind.TheVariants.{Squares}
+use Rattle.ofit_num.specs.declared.limits.TheConstants.{MOST_GROUPS}
+use Rattle.ofit_study.specs.declared.loss.LossKind.TheVariants.{Squares}
 use Rattle.ofit_study.specs.declared.settings.Settings.{Settings}
 use Rattle.ofit_study.specs.declared.pattern.Pattern.TheVariants as pattern
+use Rattle.ofit_study.specs.Loss.{IsListed}
 use Rattle.ofit_study.specs.Settings.{InOrder, InLimits}
 use Rattle.ofit_words.specs.declared.command.Command.{Command}
 use Rattle.ofit_words.specs.declared.command.Command.TheVariants as commands
@@ -16,7 +18,7 @@ use Rattle.ofit_words.specs.declared.job.Job.TheVariants.{Fit, Report, Verify, S
 use Rattle.ofit_words.specs.declared.fault.WordFault.{WordFault}
 use Rattle.ofit_words.specs.declared.fault.WordFault.TheVariants.{NoCommand, UnknownCommand, MissingName, LevelOutOfRange, UnknownSetting, RepeatedSetting, BadSetting, BoundsCross, Memory}
 use Rattle.ofit_words.specs.Commands.{command_name, name_count}
-use Rattle.ofit_words.specs.Values.{IsNumberIn, IsLoss, IsKind, IsBound, IsOrder}
+use Rattle.ofit_words.specs.Values.{IsNumberIn, IsListedLoss, IsKind, IsBound, IsOrder}
 use Rattle.ofit_words.specs.Given.{InForce, AreInForce, IsUnknown, IsRepeated, IsBad, AreFine}
 
 -- the one name is a level
@@ -47,7 +49,7 @@ pub record AllFine (words : List (List ℕ)) (command : Command) (names settings
   pub fine : AreFine command places groups [] settings
 
 pub record SettingsOf (words : List (List ℕ)) (settings : Settings) : Type 0 where
-  pub loss : InForce words Loss IsLoss Squares settings.loss
+  pub loss : InForce words Loss IsListedLoss Squares settings.loss
   pub places : InForce words Places (IsNumberIn 0 6) 3 settings.places
   pub lo : InForce words Lo (IsBound settings.places) None settings.lo
   pub hi : InForce words Hi (IsBound settings.places) None settings.hi
@@ -66,10 +68,10 @@ pub record InputsOf (name : List ℕ) (words : List (List ℕ)) (inputs : Inputs
 
 pub record SampleOf (words : List (List ℕ)) (job : SampleJob) : Type 0 where
   pub seed : InForce words Seed (IsNumberIn 0 4294967295) 1 job.seed
-  pub groups : InForce words Groups (IsNumberIn 1 2000) 100 job.groups
+  pub groups : InForce words Groups (IsNumberIn 1 MOST_GROUPS) 100 job.groups
   pub rows : InForce words Rows (IsNumberIn job.groups 10000) job.groups job.rows
   pub kind : InForce words Shape IsKind General job.kind
-  pub loss : InForce words Loss IsLoss Squares job.loss
+  pub loss : InForce words Loss IsListedLoss Squares job.loss
 
 -- the job of a command with these names and settings
 abbrev pub IsJob : Command → List (List ℕ) → List (List ℕ) → Job → Type 0
@@ -105,4 +107,4 @@ IsJobInLimits (Session inputs script) = InLimits inputs.settings
 IsJobInLimits (Unimodal table places) = places ≤ 6
 IsJobInLimits (VerifyUnimodal table sheet places) = places ≤ 6
 IsJobInLimits (Levels k) = (1 ≤ k) × (k ≤ 34)
-IsJobInLimits (Sample job) = (1 ≤ job.groups) × (job.groups ≤ 2000) × (job.groups ≤ job.rows) × (job.rows ≤ 10000)
+IsJobInLimits (Sample job) = (1 ≤ job.groups) × (job.groups ≤ MOST_GROUPS) × (job.groups ≤ job.rows) × (job.rows ≤ 10000) × IsListed job.loss

@@ -1,7 +1,6 @@
 //! The words of a call: a command, its names and its settings, read as a job or as the first fault.
 #![tactic(auto)]
 
-mod check;
 mod command;
 mod compare;
 mod fault;
@@ -10,6 +9,8 @@ mod job;
 mod key;
 mod laws;
 mod read;
+mod setting;
+mod settings;
 mod text;
 mod value;
 

@@ -1,35 +1,43 @@
-ghost use Rattle.std.specs.Prelude.{◌≡◌, ◌≤◌, ◌∷◌, ℕ, map, string_bytes, length, IfOk, IsErrOf, MatchBool, ◌⊎◌};
+ghost use Rattle.std.specs.Prelude.{◌≡◌, ◌≤◌, ◌∷◌, ℕ, List, drop, map, string_bytes, length, IfOk, IsErrOf, MatchBool, ◌⊎◌};
+ghost use Rattle.ofit_num.specs.declared.limits.TheConstants.{MOST_GROUPS};
+ghost use Rattle.ofit_study.specs.Loss.{IsListed};
 ghost use Rattle.ofit_study.specs.Settings.{InOrder, IsBoundInLimits};
 ghost use Rattle.ofit_words.specs.declared.command.Command.TheVariants.{Levels};
 ghost use Rattle.ofit_words.specs.Commands.{name_count, command_name};
+ghost use Rattle.ofit_words.specs.Given.{AreInForce};
+ghost use Rattle.ofit_words.specs.Read.{AreRead};
 ghost use Rattle.ofit_words.specs.Words.{SettingsOf, SampleOf, Cross, IsLevel, IsJobInLimits, WordsRead};
 ghost use Rattle.ofit_words.specs.Made.{IsNoLevel, InputsMade, JobMade};
 
-use crate::check::check;
 use crate::command::{Command, command_of, names_of};
 use crate::fault::WordFault;
-use crate::given::{
-    bound_in_force, in_force, kind_in_force, loss_in_force, number_in_force, order_in_force,
-};
-use crate::job::{Inputs, Job, SampleJob};
+use crate::given::{Force, in_force};
+use crate::job::{Inputs, Job, Kind, OrderChoice, SampleJob};
 use crate::key::Key;
+use crate::setting::{Setting, bound_at, loss_in, number_at, order_in, shape_in};
+use crate::settings::read_settings;
 use crate::text::Text;
 use crate::value::number_of;
-use ofit_study::Settings;
+use ofit_study::{LossKind, Pattern, Settings};
 use std::alloc::Global;
 
-fn settings_of(words: &[String]) -> Settings
-    ensures settings { SettingsOf (map string_bytes words.now) result }
+/// The settings of a fit that words give.
+fn settings_of(force: Force, given: &[Setting]) -> Settings
+    ghost words: { List (List ℕ) }
+    requires read { AreRead force.places force.groups words given.now }
+    requires forced { AreInForce words force.places force.groups }
+    requires places { force.places ≤ 6 }
+    ensures settings { SettingsOf words result }
+    ensures loss { IsListed result.loss }
     ensures places { result.places ≤ 6 }
     ensures lo { IsBoundInLimits result.lo }
     ensures hi { IsBoundInLimits result.hi }
 {
-    let places = number_in_force(words, Key::Places, 0, 6, 3);
     Settings {
-        loss: loss_in_force(words),
-        places,
-        lo: bound_in_force(words, Key::Lo, places),
-        hi: bound_in_force(words, Key::Hi, places),
+        loss: loss_in(given).unwrap_or(LossKind::Squares),
+        places: force.places,
+        lo: bound_at(given, Key::Lo),
+        hi: bound_at(given, Key::Hi),
     }
 }
 
@@ -46,31 +54,46 @@ fn cross(lo: Option<i64>, hi: Option<i64>) -> bool
     }
 }
 
-fn inputs_of(alloc: Global, table: &str, words: &[String]) -> Result<Inputs, WordFault>
-    ensures { InputsMade table.now (map string_bytes words.now) result }
+/// What a fit of the table of this name is made from.
+fn inputs_of(
+    alloc: Global,
+    table: &String,
+    force: Force,
+    given: Vec<Setting>,
+) -> Result<Inputs, WordFault>
+    ghost words: { List (List ℕ) }
+    requires read { AreRead force.places force.groups words given.items }
+    requires forced { AreInForce words force.places force.groups }
+    requires places { force.places ≤ 6 }
+    ensures { InputsMade (string_bytes table.now) words result }
 {
-    let settings = settings_of(words);
+    let settings = settings_of(force, given.as_slice());
     if cross(settings.lo, settings.hi) {
         return Err(WordFault::BoundsCross);
     }
     Ok(Inputs {
-        table: Text::copy_of(alloc, table)?,
-        order: order_in_force(alloc, words)?,
+        table: Text::copy_of(alloc, table.as_str())?,
+        order: order_in(given).unwrap_or(OrderChoice::Shaped(Pattern::Chain)),
         settings,
     })
 }
 
-fn sample_of(words: &[String]) -> SampleJob
-    ensures value { SampleOf (map string_bytes words.now) result }
+/// What a sample is made from.
+fn sample_of(force: Force, given: &[Setting]) -> SampleJob
+    ghost words: { List (List ℕ) }
+    requires read { AreRead force.places force.groups words given.now }
+    requires forced { AreInForce words force.places force.groups }
+    requires least { 1 ≤ force.groups }
+    requires most { force.groups ≤ MOST_GROUPS }
+    ensures value { SampleOf words result }
     ensures limits { IsJobInLimits (Job.Sample result) }
 {
-    let groups = number_in_force(words, Key::Groups, 1, 2000, 100);
     SampleJob {
-        seed: number_in_force(words, Key::Seed, 0, u32::MAX, 1),
-        groups,
-        rows: number_in_force(words, Key::Rows, groups, 10_000, groups),
-        kind: kind_in_force(words),
-        loss: loss_in_force(words),
+        seed: number_at(given, Key::Seed).unwrap_or(1),
+        groups: force.groups,
+        rows: number_at(given, Key::Rows).unwrap_or(force.groups),
+        kind: shape_in(given).unwrap_or(Kind::General),
+        loss: loss_in(given).unwrap_or(LossKind::Squares),
     }
 }
 
@@ -90,48 +113,57 @@ fn job_of(
     alloc: Global,
     command: Command,
     names: &[String],
-    words: &[String],
+    force: Force,
+    given: Vec<Setting>,
 ) -> Result<Job, WordFault>
-    requires { length names.now ≡ name_count command }
-    ensures { JobMade command (map string_bytes names.now) (map string_bytes words.now) result }
+    ghost words: { List (List ℕ) }
+    requires names { length names.now ≡ name_count command }
+    requires read { AreRead force.places force.groups words given.items }
+    requires forced { AreInForce words force.places force.groups }
+    requires places { force.places ≤ 6 }
+    requires least { 1 ≤ force.groups }
+    requires most { force.groups ≤ MOST_GROUPS }
+    ensures { JobMade command (map string_bytes names.now) words result }
 {
     match command {
-        Command::Fit => match inputs_of(alloc, names[0].as_str(), words) {
+        Command::Fit => match inputs_of(alloc, &names[0], force, given) {
             Ok(inputs) => Ok(Job::Fit(inputs)),
             Err(fault) => Err(fault),
         },
-        Command::Report => match inputs_of(alloc, names[0].as_str(), words) {
+        Command::Report => match inputs_of(alloc, &names[0], force, given) {
             Ok(inputs) => Ok(Job::Report(inputs)),
             Err(fault) => Err(fault),
         },
         Command::Verify => {
             let sheet = Text::copy_of(alloc, names[1].as_str())?;
-            match inputs_of(alloc, names[0].as_str(), words) {
+            match inputs_of(alloc, &names[0], force, given) {
                 Ok(inputs) => Ok(Job::Verify(inputs, sheet)),
                 Err(fault) => Err(fault),
             }
         }
         Command::Session => {
             let script = Text::copy_of(alloc, names[1].as_str())?;
-            match inputs_of(alloc, names[0].as_str(), words) {
+            match inputs_of(alloc, &names[0], force, given) {
                 Ok(inputs) => Ok(Job::Session(inputs, script)),
                 Err(fault) => Err(fault),
             }
         }
         Command::Unimodal => {
-            let places = number_in_force(words, Key::Places, 0, 6, 3);
-            Ok(Job::Unimodal(Text::copy_of(alloc, names[0].as_str())?, places))
+            Ok(Job::Unimodal(Text::copy_of(alloc, names[0].as_str())?, force.places))
         }
         Command::VerifyUnimodal => {
-            let places = number_in_force(words, Key::Places, 0, 6, 3);
             let table = Text::copy_of(alloc, names[0].as_str())?;
-            Ok(Job::VerifyUnimodal(table, Text::copy_of(alloc, names[1].as_str())?, places))
+            Ok(Job::VerifyUnimodal(
+                table,
+                Text::copy_of(alloc, names[1].as_str())?,
+                force.places,
+            ))
         }
         Command::Levels => match number_of(names[0].as_str(), 1, 34) {
             Some(level) => Ok(Job::Levels(level)),
             None => Err(WordFault::LevelOutOfRange),
         },
-        Command::Sample => Ok(Job::Sample(sample_of(words))),
+        Command::Sample => Ok(Job::Sample(sample_of(force, given.as_slice()))),
     }
 }
 
@@ -155,6 +187,8 @@ pub fn read_words(alloc: Global, words: &[String]) -> Result<Job, WordFault>
 
 /// What the words behind a command ask for.
 fn read_call(alloc: Global, command: Command, words: &[String]) -> Result<Job, WordFault>
+    ghost settings: { List (List ℕ) }
+    requires { settings ≡ drop (name_count command) (map string_bytes words.now) }
     ensures read { IsErrOf result WordFault.Memory ⊎ WordsRead (command_name command ∷ map string_bytes words.now) result }
     ensures limits { IfOk result IsJobInLimits }
 {
@@ -162,12 +196,13 @@ fn read_call(alloc: Global, command: Command, words: &[String]) -> Result<Job, W
     if words.len() < count {
         return Err(WordFault::MissingName);
     }
-    let (names, settings) = words.split_at(count);
+    let (names, given) = words.split_at(count);
     if !level_is_good(command, names) {
         return Err(WordFault::LevelOutOfRange);
     }
-    match check(alloc, command, in_force(settings), settings) {
-        Ok(()) => job_of(alloc, command, names, settings),
+    let force = in_force(given);
+    match read_settings(alloc, command, force, given) {
+        Ok(settings) => job_of(alloc, command, names, force, settings),
         Err(fault) => Err(fault),
     }
 }

@@ -9,12 +9,12 @@ pub unreachable-requires : goal.unreachable-requires
 unreachable-requires c =
     let t = c.in_ok-amounts.ensures.told in
     let told = subst (Tells c.args.pairs.now t.spans) c.in-Above.is t.told in
-    never_above c.args.study.now c.group_count-groups.ensures.valid c.args.values.now c.in_ok-amounts.ensures.fractions c.requires.best.count t.spans t.of_groups c.requires.best (has_node c.in-Above.field-0)
+    never_above c.args.study.now c.keeps_limits.ensures.valid c.args.values.now c.in_ok-amounts.ensures.fractions c.requires.best.count t.spans t.of_groups c.requires.best (has_node c.in-Above.field-0)
     (subst (λ (pairs : List (ℕ × ℕ)). IsAbove pairs t.spans (has_node c.in-Above.field-0)) c.requires.tight told.1)
 
 pub unreachable-requires-in-Below : goal.unreachable-requires-in-Below
 unreachable-requires-in-Below c =
     let t = c.in_ok-amounts.ensures.told in
     let told = subst (Tells c.args.pairs.now t.spans) c.in-Below.is t.told in
-    never_below c.args.study.now c.group_count-groups.ensures.valid c.args.values.now c.in_ok-amounts.ensures.fractions c.requires.best.count t.spans t.of_groups c.requires.best (has_node c.in-Below.field-0)
+    never_below c.args.study.now c.keeps_limits.ensures.valid c.args.values.now c.in_ok-amounts.ensures.fractions c.requires.best.count t.spans t.of_groups c.requires.best (has_node c.in-Below.field-0)
     (subst (λ (pairs : List (ℕ × ℕ)). IsBelow pairs t.spans (has_node c.in-Below.field-0)) c.requires.tight told.1)

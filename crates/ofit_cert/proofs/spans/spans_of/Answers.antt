@@ -6,7 +6,7 @@ use Rattle.ofit_num.specs.Fraction.{Fraction}
 use Rattle.ofit_cut.specs.declared.span.Span.{Span}
 use Rattle.ofit_cut.specs.Span.{span_at}
 use Rattle.ofit_sheet.specs.Kept.{IsFractionInLimits}
-use Rattle.ofit_study.specs.Study.{bounds_of, problem_stated, meaning_of}
+use Rattle.ofit_study.specs.Study.{problem_stated, meaning_of}
 use Rattle.ofit_cert.specs.Tight.{own}
 use Rattle.ofit_cert.specs.OpenSpans.{open_span}
 use Rattle.ofit_cert.proofs.Spanning.{own_is, get_is, span_more}
@@ -20,13 +20,13 @@ loop-place-preserved c =
     let value = c.index-values-place.result in
     let inside : k < length fs = omega (arith, c.loop-place-test.true) in
     let at : slice_get fs k ≡ Some value = get_is fs k value inside c.index-values-place.is in
-    let span_for : ℕ → Fraction → Span = λ g f. open_span (meaning_of s.settings.loss) ((problem_stated s).rows g) (bounds_of s.settings g) f in
+    let span_for : ℕ → Fraction → Span = λ g f. open_span (meaning_of s.settings.loss) ((problem_stated s).rows g) ((problem_stated s).bounds g) f in
     record {
-      counted = omega (arith, ap length c.in_ok-push.ensures.items, length_push c.loop-place.spans.items c.span_of.result, c.loop-place.invariant.counted);
+      counted = omega (arith, ap length c.in_ok-push.ensures.items, length_push c.loop-place.spans.items c.span_at.result, c.loop-place.invariant.counted);
       each = subst (λ (spans : List Span). (g : ℕ) → g < k + 1 → span_at spans g ≡ span_for g (own fs g)) (sym c.in_ok-push.ensures.items)
-          (span_more c.loop-place.spans.items c.span_of.result k (λ g. span_for g (own fs g)) c.loop-place.invariant.counted c.loop-place.invariant.each (c.span_of.ensures.span ∙ ap (span_for k) (sym (own_is fs k value at))));
+          (span_more c.loop-place.spans.items c.span_at.result k (λ g. span_for g (own fs g)) c.loop-place.invariant.counted c.loop-place.invariant.each (c.span_at.ensures.span ∙ ap (span_for k) (sym (own_is fs k value at))));
       fractions = λ g f l e.
-          below_more (λ h. (b : Fraction) → slice_get fs h ≡ Some b → IsFractionInLimits b) k (λ h m b d. c.loop-place.invariant.fractions h b m d) (λ b d. subst IsFractionInLimits (same_Some value b (sym at ∙ d)) c.span_of.ensures.fraction) g l f e;
+          below_more (λ h. (b : Fraction) → slice_get fs h ≡ Some b → IsFractionInLimits b) k (λ h m b d. c.loop-place.invariant.fractions h b m d) (λ b d. subst IsFractionInLimits (same_Some value b (sym at ∙ d)) c.span_at.ensures.fraction) g l f e;
     }
 
 pub returns-clause-fractions : goal.returns-clause-fractions

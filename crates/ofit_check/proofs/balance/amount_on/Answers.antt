@@ -8,10 +8,17 @@ use Rattle.std.specs.Prelude.{ℤ, pos, ◌≤ℤ◌, slice_get, Some, unsigned_
 use Rattle.ofit_num.specs.Problem.{HasDistinctPairs}
 use Rattle.ofit_sheet.specs.Parts.{flow_of}
 use Rattle.ofit_study.specs.Study.{problem_stated}
+use Rattle.ofit_study.proofs.Pushing.{slice_get-Contains}
 use Rattle.ofit_study.proofs.Stating.{pairs_distinct}
 use Rattle.ofit_check.specs.Check.{amount_along}
-use Rattle.ofit_check.proofs.Amounts.{pair_of, flow_index, all_before, all_after, nothing_along, found_along}
+use Rattle.ofit_check.proofs.Amounts.{flow_on_pair, pair_of, flow_index, all_before, all_after, nothing_along, found_along}
 use Rattle.ofit_check.proofs.balance.amount_on.Goals as goal
+
+pub compare_pairs-requires-clause-first : goal.compare_pairs-requires-clause-first
+compare_pairs-requires-clause-first c = flow_on_pair (problem_stated c.args.study.now) c.args.sheet.now c.requires.flows.on_pairs _ (flow_of c.flow_at-low.result) c.flow_at-low.ensures.value
+
+pub compare_pairs-requires-clause-second : goal.compare_pairs-requires-clause-second
+compare_pairs-requires-clause-second c = slice_get-Contains (problem_stated c.args.study.now).pairs c.args.index c.pair_at-pair.result c.pair_at-pair.ensures
 
 pub loop-least-preserved-in-Less : goal.loop-least-preserved-in-Less
 loop-least-preserved-in-Less c =

@@ -1,3 +1,5 @@
+use Rattle.ofit_study.specs.Study.{problem_stated}
+use Rattle.ofit_num.specs.Clipped.{without_bounds}
 use Rattle.std.proofs.Common.{ℕ, refl, ◌↔◌, arith, List, map, slice_index, subst, sym, ◌∙◌}
 use Rattle.std.proofs.lemmas.Result.{IfOk-weaker}
 use Rattle.std.specs.Prelude.{Vec}
@@ -13,7 +15,6 @@ use Rattle.ofit_chain.specs.Chain.{chain_problem}
 use Rattle.ofit_fit.specs.Put.{ArePut}
 use Rattle.ofit_fit.proofs.Closed.{distinct_from_increasing}
 use Rattle.ofit_fit.proofs.Chained.{path_count, path_inside, path_once, path_distinct, chained}
-use Rattle.ofit_fit.specs.Piece.{free_problem}
 use Rattle.ofit_fit.proofs.Ready.{scaling, places_closed}
 use Rattle.ofit_fit.proofs.chain.fit_as_chain.Goals as goal
 
@@ -61,7 +62,7 @@ values_put-requires-clause-distinct g c =
 
 pub returns : goal.returns
 returns g c =
-    let s = free_problem c.args.study.now in
+    let s = without_bounds (problem_stated c.args.study.now) in
     let members = c.args.members.now in
     let list = c.requires.chain.0 in
     let chain = subst (λ (ps : List (ℕ × ℕ)). IsChainOf ps members list) (sym c.pairs.ensures) c.requires.chain.1 in

@@ -1,3 +1,4 @@
+use Rattle.ofit_num.specs.Clipped.{without_bounds}
 use Rattle.std.proofs.Common.{ℕ, ◌<◌, ◌↔◌, arith, refl, List, map, length, subst, sym, ap}
 use Rattle.std.proofs.lemmas.Result.{IfOk-weaker}
 use Rattle.std.proofs.lemmas.List.{length-map}
@@ -11,9 +12,8 @@ use Rattle.ofit_num.specs.Fit.{LeastBestValues}
 use Rattle.ofit_order.specs.Relation.{AreInOrder}
 use Rattle.ofit_order.specs.Connection.{LeadsUp}
 use Rattle.ofit_loss.specs.Rows.{AreFittable, IsPlain}
-use Rattle.ofit_study.specs.Study.{groups_of}
+use Rattle.ofit_study.specs.Study.{groups_of, problem_stated}
 use Rattle.ofit_partition.specs.Piece.{partition_problem}
-use Rattle.ofit_fit.specs.Piece.{free_problem}
 use Rattle.ofit_fit.proofs.Closed.{distinct_from_increasing}
 use Rattle.ofit_fit.proofs.Taken.{taken_fittable}
 use Rattle.ofit_fit.proofs.Ready.{few_members, scaling, places_closed}
@@ -37,7 +37,7 @@ pub partition-requires-clause-few_groups : goal.partition-requires-clause-few_gr
 partition-requires-clause-few_groups g c = omega (
   arith,
   ap length c.in_ok-groups.ensures,
-  length-map c.args.members.now (free_problem c.args.study.now).rows,
+  length-map c.args.members.now (without_bounds (problem_stated c.args.study.now)).rows,
   few_members c.args.members.now (length (groups_of c.args.study.now)) c.requires.places.rising c.requires.places.inside,
   c.requires.study.few_groups,
 )
@@ -48,7 +48,7 @@ partition-requires-clause-few_pairs g c = omega (arith, ap length c.deref.ensure
 pub partition-requires-clause-places : goal.partition-requires-clause-places
 partition-requires-clause-places g c =
     let members = c.args.members.now in
-    let s = free_problem c.args.study.now in
+    let s = without_bounds (problem_stated c.args.study.now) in
     let same_pairs : (e : ℕ × ℕ) → Contains c.pairs.result.now e ↔ Contains s.pairs e = subst (λ (qs : List (ℕ × ℕ)). (e : ℕ × ℕ) → Contains qs e ↔ Contains s.pairs e) (sym c.pairs.ensures) c.requires.study.of.pairs in
     subst (λ (gs : List (List Row)). All (λ (e : ℕ × ℕ). (e.0 < length gs) × (e.1 < length gs)) c.deref.result.now) (sym c.in_ok-groups.ensures)
     (subst (All (λ (e : ℕ × ℕ). (e.0 < length (map s.rows members)) × (e.1 < length (map s.rows members)))) (sym c.deref.ensures.value)
@@ -57,7 +57,7 @@ partition-requires-clause-places g c =
 pub returns-clause-least_best : goal.returns-clause-least_best
 returns-clause-least_best g c =
     let members = c.args.members.now in
-    let s = free_problem c.args.study.now in
+    let s = without_bounds (problem_stated c.args.study.now) in
     let same_pairs : (e : ℕ × ℕ) → Contains c.pairs.result.now e ↔ Contains s.pairs e = subst (λ (qs : List (ℕ × ℕ)). (e : ℕ × ℕ) → Contains qs e ↔ Contains s.pairs e) (sym c.pairs.ensures) c.requires.study.of.pairs in
     IfOk-weaker c.partition.result _ _
     (λ (values : Vec Frac Global) (low : LeastBestValues g.L.Loss.meaning (partition_problem c.in_ok-groups.groups c.deref.result.now) values.items).

@@ -10,7 +10,7 @@ use Rattle.ofit_fit.proofs.Closed.{distinct_from_increasing}
 use Rattle.ofit_fit.proofs.Fitted.{fitted_none, fitted_more, fitted_all, count_of_order, one_count, at_any}
 use Rattle.ofit_fit.proofs.Counts.{AreCounted, counted_none, counted_more, counted_most, counted_grown, counted_all, counted_within, one_cut}
 use Rattle.ofit_fit.proofs.Components.{HasComponents, from_parts}
-use Rattle.ofit_fit.proofs.Stated.{stated_scaling}
+use Rattle.ofit_span.proofs.StatedLosses.{stated_scaling}
 use Rattle.ofit_fit.proofs.study.fit_components.Goals as goal
 
 pub loop-component-init : goal.loop-component-init
@@ -69,7 +69,7 @@ returns-clause-least_best c =
     let m = meaning_of c.args.study.now.settings.loss in
     let s = problem_stated c.args.study.now in
     let has : HasComponents c.args.order.now c.component_count-component-end.result = record { within = e.within; each = e.each; covers = e.covers; listed = e.listed } in
-    from_parts c.args.order.now c.component_count-component-end.result has m s c.requires.order (stated_scaling c.args.study.now c.group_count-groups.ensures.valid) c.loop-component.fitted.items
+    from_parts c.args.order.now c.component_count-component-end.result has m s c.requires.order (stated_scaling c.args.study.now c.keeps_limits.ensures.valid c.args.study.now.settings.loss) c.loop-component.fitted.items
     (fitted_all c.args.order.now m s c.loop-component.component c.component_count-component-end.result c.loop-component.fitted.items e.count (omega arith) c.loop-component.invariant.0)
 
 pub returns-clause-counted : goal.returns-clause-counted

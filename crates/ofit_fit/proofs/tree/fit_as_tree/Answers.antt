@@ -1,3 +1,4 @@
+use Rattle.ofit_num.specs.Clipped.{without_bounds}
 use Rattle.std.proofs.Common.{ℕ, refl, ◌<◌, ◌↔◌, List, length, subst, sym}
 use Rattle.std.proofs.lemmas.Result.{IfOk-weaker}
 use Rattle.std.specs.Prelude.{All, Vec, Option}
@@ -11,13 +12,12 @@ use Rattle.ofit_order.specs.Relation.{AreInOrder}
 use Rattle.ofit_order.specs.Connection.{LeadsUp}
 use Rattle.ofit_order.specs.Shape.{RunsTo}
 use Rattle.ofit_loss.specs.Rows.{AreFittable}
-use Rattle.ofit_study.specs.Study.{groups_of}
+use Rattle.ofit_study.specs.Study.{groups_of, problem_stated}
 use Rattle.ofit_tree.specs.Tree.{tree_problem}
 use Rattle.ofit_fit.specs.Links.{AreLinks}
 use Rattle.ofit_fit.specs.Direct.{Leads}
 use Rattle.ofit_fit.proofs.Closed.{distinct_from_increasing}
 use Rattle.ofit_fit.proofs.Taken.{taken_filled, taken_fittable}
-use Rattle.ofit_fit.specs.Piece.{free_problem}
 use Rattle.ofit_fit.proofs.Ready.{scaling, places_closed}
 use Rattle.ofit_fit.proofs.TreeParts.{rooted, treed}
 use Rattle.ofit_fit.proofs.tree.fit_as_tree.Goals as goal
@@ -47,7 +47,7 @@ pub returns : goal.returns
 returns g c =
     let ps = c.pairs.result.now in
     let members = c.args.members.now in
-    let s = free_problem c.args.study.now in
+    let s = without_bounds (problem_stated c.args.study.now) in
     let runs = subst (λ (qs : List (ℕ × ℕ)). RunsTo (Leads c.args.direction qs) members c.requires.tree.0) (sym c.pairs.ensures) c.requires.tree.1 in
     let links = subst (λ (ls : List (Option ℕ)). AreLinks (Leads c.args.direction ps) members ls) (sym c.as_slice.ensures.value) c.in_ok-parents.ensures in
     let same_pairs : (e : ℕ × ℕ) → Contains ps e ↔ Contains s.pairs e = subst (λ (qs : List (ℕ × ℕ)). (e : ℕ × ℕ) → Contains qs e ↔ Contains s.pairs e) (sym c.pairs.ensures) c.requires.study.of.pairs in

@@ -1,12 +1,11 @@
-use Rattle.std.proofs.Common.{arith, ◌≡◌, ℕ, List, ℤ, replicate, sym, ap, subst, ◌∙◌, refl, pos, to_z, of_z}
+use Rattle.std.proofs.Common.{arith, ◌≡◌, ℕ, replicate, sym, ap, subst, ◌∙◌, refl, pos, to_z, of_z}
 use Rattle.std.specs.List.{All}
-use Rattle.std.specs.Prelude.{◌+ℤ◌, ◌<ℤ◌}
+use Rattle.std.specs.Prelude.{◌<ℤ◌}
 use Rattle.std.proofs.lemmas.Int.{ints, to_z-of_z}
 use mir.Syntax.{w128}
 use Rattle.ofit_flow.specs.declared.step.Step.{Step}
-use Rattle.ofit_flow.specs.Walk.{IsPath}
 use Rattle.ofit_flow.proofs.Augmenting.{rising}
-use Rattle.ofit_flow.proofs.Block.{blocking_first, blocking_more, blocking_done, path_rooms, walks_as, more_fits}
+use Rattle.ofit_flow.proofs.Block.{blocking_first, blocking_more, blocking_done, path_rooms, walks_as, is_sent}
 use Rattle.ofit_flow.proofs.blocking.block.Goals as goal
 
 pub loop-walk-init : goal.loop-walk-init
@@ -25,41 +24,24 @@ width_of-by-requires c =
 pub overflow_add-flow : goal.overflow_add-flow
 overflow_add-flow c =
     let w = walks_as c.in_ok-find_path.ensures c.as_slice.ensures.value c.loop-walk.invariant.can.counted c.if-branch.true in
-    let path : IsPath c.args.edges.now c.loop-walk.flow.amounts.items c.find_path.new.levels.items c.as_slice-in-loop-walk-2.result.now c.args.source c.args.sink = subst (λ (p : List Step). IsPath c.args.edges.now c.loop-walk.flow.amounts.items c.find_path.new.levels.items p c.args.source c.args.sink) (sym c.as_slice-in-loop-walk-2.ensures.value) (w.leads refl) in
-    let sent = c.augment.ensures c.find_path.new.levels.items c.args.source c.args.sink c.requires.apart c.loop-walk.invariant.flow path in
-    let small = more_fits c.loop-walk.invariant sent c.requires.apart c.requires.few in
-    let by : ℤ = to_z w128 (of_z w128 c.width_of-by.result) in
-    let value : ℤ = to_z w128 (of_z w128 c.loop-walk.flow.value) in
-    let by_is : by ≡ c.width_of-by.result = to_z-of_z w128 c.width_of-by.result (omega (arith, ints)) in
-    let value_is : value ≡ c.loop-walk.flow.value = to_z-of_z w128 c.loop-walk.flow.value (omega (arith, ints, small, c.loop-walk.invariant.gained)) in
-    omega (arith, ints, small, by_is, value_is, c.loop-walk.invariant.gained)
+    let by_is : to_z w128 (of_z w128 c.width_of-by.result) ≡ c.width_of-by.result = to_z-of_z w128 c.width_of-by.result (omega (arith, ints)) in
+    let s = is_sent c.loop-walk.invariant w c.as_slice-in-loop-walk-2.ensures.value (c.augment.ensures c.find_path.new.levels.items c.args.source c.args.sink c.requires.apart c.loop-walk.invariant.flow) c.requires.apart c.requires.few (omega (arith, ints, by_is, c.width_of-by.ensures.positive)) in
+    omega (arith, ints, s.small, by_is, s.kept.value_is, c.loop-walk.invariant.gained)
 
 pub loop-walk-smaller : goal.loop-walk-smaller
 loop-walk-smaller c =
     let w = walks_as c.in_ok-find_path.ensures c.as_slice.ensures.value c.loop-walk.invariant.can.counted c.if-branch.true in
-    let path : IsPath c.args.edges.now c.loop-walk.flow.amounts.items c.find_path.new.levels.items c.as_slice-in-loop-walk-2.result.now c.args.source c.args.sink = subst (λ (p : List Step). IsPath c.args.edges.now c.loop-walk.flow.amounts.items c.find_path.new.levels.items p c.args.source c.args.sink) (sym c.as_slice-in-loop-walk-2.ensures.value) (w.leads refl) in
-    let sent = c.augment.ensures c.find_path.new.levels.items c.args.source c.args.sink c.requires.apart c.loop-walk.invariant.flow path in
-    let small = more_fits c.loop-walk.invariant sent c.requires.apart c.requires.few in
-    let by : ℤ = to_z w128 (of_z w128 c.width_of-by.result) in
-    let value : ℤ = to_z w128 (of_z w128 c.loop-walk.flow.value) in
-    let by_is : by ≡ c.width_of-by.result = to_z-of_z w128 c.width_of-by.result (omega (arith, ints)) in
-    let value_is : value ≡ c.loop-walk.flow.value = to_z-of_z w128 c.loop-walk.flow.value (omega (arith, ints, small, c.loop-walk.invariant.gained)) in
-    let whole : to_z w128 (of_z w128 (value +ℤ by)) ≡ value +ℤ by = to_z-of_z w128 (value +ℤ by) (omega (arith, ints, small, by_is, value_is, c.loop-walk.invariant.gained)) in
-    rising c.args.edges.now c.args.source c.args.sink c.loop-walk.flow.amounts.items c.augment.new.amounts.items c.loop-walk.flow.value by (to_z w128 (of_z w128 (value +ℤ by)))
-    c.requires.apart sent.flow c.loop-walk.invariant.valued sent.value (omega (arith, ints, by_is, c.width_of-by.ensures.positive)) (omega (arith, ints, whole, by_is, value_is))
+    let by_is : to_z w128 (of_z w128 c.width_of-by.result) ≡ c.width_of-by.result = to_z-of_z w128 c.width_of-by.result (omega (arith, ints)) in
+    let s = is_sent c.loop-walk.invariant w c.as_slice-in-loop-walk-2.ensures.value (c.augment.ensures c.find_path.new.levels.items c.args.source c.args.sink c.requires.apart c.loop-walk.invariant.flow) c.requires.apart c.requires.few (omega (arith, ints, by_is, c.width_of-by.ensures.positive)) in
+    rising c.args.edges.now c.args.source c.args.sink c.loop-walk.flow.amounts.items c.augment.new.amounts.items c.loop-walk.flow.value (to_z w128 (of_z w128 c.width_of-by.result)) _
+    c.requires.apart s.sent.flow c.loop-walk.invariant.valued s.sent.value (omega (arith, ints, by_is, c.width_of-by.ensures.positive)) (omega (arith, ints, s.kept.sum_is, by_is))
 
 pub loop-walk-preserved : goal.loop-walk-preserved
 loop-walk-preserved c =
     let w = walks_as c.in_ok-find_path.ensures c.as_slice.ensures.value c.loop-walk.invariant.can.counted c.if-branch.true in
-    let path : IsPath c.args.edges.now c.loop-walk.flow.amounts.items c.find_path.new.levels.items c.as_slice-in-loop-walk-2.result.now c.args.source c.args.sink = subst (λ (p : List Step). IsPath c.args.edges.now c.loop-walk.flow.amounts.items c.find_path.new.levels.items p c.args.source c.args.sink) (sym c.as_slice-in-loop-walk-2.ensures.value) (w.leads refl) in
-    let sent = c.augment.ensures c.find_path.new.levels.items c.args.source c.args.sink c.requires.apart c.loop-walk.invariant.flow path in
-    let small = more_fits c.loop-walk.invariant sent c.requires.apart c.requires.few in
-    let by : ℤ = to_z w128 (of_z w128 c.width_of-by.result) in
-    let value : ℤ = to_z w128 (of_z w128 c.loop-walk.flow.value) in
-    let by_is : by ≡ c.width_of-by.result = to_z-of_z w128 c.width_of-by.result (omega (arith, ints)) in
-    let value_is : value ≡ c.loop-walk.flow.value = to_z-of_z w128 c.loop-walk.flow.value (omega (arith, ints, small, c.loop-walk.invariant.gained)) in
-    let whole : to_z w128 (of_z w128 (value +ℤ by)) ≡ value +ℤ by = to_z-of_z w128 (value +ℤ by) (omega (arith, ints, small, by_is, value_is, c.loop-walk.invariant.gained)) in
-    blocking_more (to_z w128 (of_z w128 (value +ℤ by))) c.loop-walk.invariant w sent (omega (arith, ints, whole, by_is, value_is)) (omega (arith, ints))
+    let by_is : to_z w128 (of_z w128 c.width_of-by.result) ≡ c.width_of-by.result = to_z-of_z w128 c.width_of-by.result (omega (arith, ints)) in
+    let s = is_sent c.loop-walk.invariant w c.as_slice-in-loop-walk-2.ensures.value (c.augment.ensures c.find_path.new.levels.items c.args.source c.args.sink c.requires.apart c.loop-walk.invariant.flow) c.requires.apart c.requires.few (omega (arith, ints, by_is, c.width_of-by.ensures.positive)) in
+    blocking_more _ c.loop-walk.invariant w s.sent (omega (arith, ints, s.kept.sum_is, by_is)) (omega (arith, ints, by_is, c.width_of-by.ensures.positive))
 
 pub returns-clause-further : goal.returns-clause-further
 returns-clause-further c =

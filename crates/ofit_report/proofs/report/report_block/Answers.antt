@@ -19,7 +19,7 @@ rows_of-requires c =
     let s = c.args.study.now in
     let values = c.args.values.now in
     let members = c.members-members.result.now in
-    let here : IsReady s values c.args.block members = ready s c.group_count-groups.ensures.valid values c.args.order.now c.requires.order c.args.block c.requires.block members c.members-members.ensures.members in
+    let here : IsReady s values c.args.block members = ready s c.keeps_limits.ensures.valid values c.args.order.now c.requires.order c.args.block c.requires.block members c.members-members.ensures.members in
     λ i d l. here.inside _ (Contains-get_or members i d l)
 
 pub bounds-members-0 : goal.bounds-members-0
@@ -27,7 +27,7 @@ bounds-members-0 c =
     let s = c.args.study.now in
     let values = c.args.values.now in
     let members = c.members-members.result.now in
-    let here : IsReady s values c.args.block members = ready s c.group_count-groups.ensures.valid values c.args.order.now c.requires.order c.args.block c.requires.block members c.members-members.ensures.members in
+    let here : IsReady s values c.args.block members = ready s c.keeps_limits.ensures.valid values c.args.order.now c.requires.order c.args.block c.requires.block members c.members-members.ensures.members in
     here.some
 
 pub bounds-values-members : goal.bounds-values-members
@@ -35,7 +35,7 @@ bounds-values-members c =
     let s = c.args.study.now in
     let values = c.args.values.now in
     let members = c.members-members.result.now in
-    let here : IsReady s values c.args.block members = ready s c.group_count-groups.ensures.valid values c.args.order.now c.requires.order c.args.block c.requires.block members c.members-members.ensures.members in
+    let here : IsReady s values c.args.block members = ready s c.keeps_limits.ensures.valid values c.args.order.now c.requires.order c.args.block c.requires.block members c.members-members.ensures.members in
     let named : length values ≡ length (names_of s) = c.requires.count in
     omega (arith, here.inside (slice_index members 0) (Contains-get_or members 0 0 here.some), named)
 
@@ -44,7 +44,7 @@ cost_of-cost-requires-clause-limits c =
     let s = c.args.study.now in
     let values = c.args.values.now in
     let members = c.members-members.result.now in
-    let here : IsReady s values c.args.block members = ready s c.group_count-groups.ensures.valid values c.args.order.now c.requires.order c.args.block c.requires.block members c.members-members.ensures.members in
+    let here : IsReady s values c.args.block members = ready s c.keeps_limits.ensures.valid values c.args.order.now c.requires.order c.args.block c.requires.block members c.members-members.ensures.members in
     let are_rows : c.as_slice.result.now ≡ rows_among s members = c.as_slice.ensures.value ∙ c.in_ok-rows.ensures in
     subst AreWithinLimits (sym are_rows) here.limits
 
@@ -53,7 +53,7 @@ cost_of-cost-requires-clause-some c =
     let s = c.args.study.now in
     let values = c.args.values.now in
     let members = c.members-members.result.now in
-    let here : IsReady s values c.args.block members = ready s c.group_count-groups.ensures.valid values c.args.order.now c.requires.order c.args.block c.requires.block members c.members-members.ensures.members in
+    let here : IsReady s values c.args.block members = ready s c.keeps_limits.ensures.valid values c.args.order.now c.requires.order c.args.block c.requires.block members c.members-members.ensures.members in
     let are_rows : c.as_slice.result.now ≡ rows_among s members = c.as_slice.ensures.value ∙ c.in_ok-rows.ensures in
     omega (arith, here.filled, ap length are_rows)
 
@@ -62,7 +62,7 @@ cost_of-cost-requires-clause-value c =
     let s = c.args.study.now in
     let values = c.args.values.now in
     let members = c.members-members.result.now in
-    let here : IsReady s values c.args.block members = ready s c.group_count-groups.ensures.valid values c.args.order.now c.requires.order c.args.block c.requires.block members c.members-members.ensures.members in
+    let here : IsReady s values c.args.block members = ready s c.keeps_limits.ensures.valid values c.args.order.now c.requires.order c.args.block c.requires.block members c.members-members.ensures.members in
     let named : length values ≡ length (names_of s) = c.requires.count in
     let inside : slice_index members 0 < length values = omega (arith, here.inside (slice_index members 0) (Contains-get_or members 0 0 here.some), named) in
     let is_value = value_is values (slice_index members 0) c.index-values-members.result inside c.index-values-members.is in
@@ -80,7 +80,7 @@ write_block-requires-clause-weight c =
     let s = c.args.study.now in
     let values = c.args.values.now in
     let members = c.members-members.result.now in
-    let here : IsReady s values c.args.block members = ready s c.group_count-groups.ensures.valid values c.args.order.now c.requires.order c.args.block c.requires.block members c.members-members.ensures.members in
+    let here : IsReady s values c.args.block members = ready s c.keeps_limits.ensures.valid values c.args.order.now c.requires.order c.args.block c.requires.block members c.members-members.ensures.members in
     let are_rows : c.as_slice-2.result.now ≡ rows_among s members = c.as_slice-2.ensures.value ∙ c.in_ok-rows.ensures in
     (subst AreWithinLimits (sym are_rows) here.limits).together
 
@@ -89,7 +89,7 @@ returns c =
     let s = c.args.study.now in
     let values = c.args.values.now in
     let members = c.members-members.result.now in
-    let here : IsReady s values c.args.block members = ready s c.group_count-groups.ensures.valid values c.args.order.now c.requires.order c.args.block c.requires.block members c.members-members.ensures.members in
+    let here : IsReady s values c.args.block members = ready s c.keeps_limits.ensures.valid values c.args.order.now c.requires.order c.args.block c.requires.block members c.members-members.ensures.members in
     let named : length values ≡ length (names_of s) = c.requires.count in
     let inside : slice_index members 0 < length values = omega (arith, here.inside (slice_index members 0) (Contains-get_or members 0 0 here.some), named) in
     let is_value = value_is values (slice_index members 0) c.index-values-members.result inside c.index-values-members.is in

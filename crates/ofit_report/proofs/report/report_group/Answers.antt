@@ -12,7 +12,7 @@ use Rattle.ofit_report.proofs.report.report_group.Goals as goal
 pub write_group-requires : goal.write_group-requires
 write_group-requires c =
     let s = c.args.study.now in
-    (group_within (groups_of s) c.args.place c.rows_of.result.now c.rows_of.ensures (rows_within s c.group_count-groups.ensures.valid)).together
+    (group_within (groups_of s) c.args.place c.rows_of.result.now c.rows_of.ensures (rows_within s c.keeps_limits.ensures.valid)).together
 
 pub returns : goal.returns
 returns c =

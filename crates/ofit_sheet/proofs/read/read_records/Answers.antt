@@ -19,7 +19,7 @@ sheet_from-requires-clause-settings c =
     let h = c.in-Ok.ensures in
     let r = c.in-Ok-read_rest.ensures in
     let told = r.1.told in
-    subst (λ (t : Told). InLimits (settings_of c.in-Ok.head t.bounds)) (sym told) (limits_so (names_of c.args.study.now) c.in-Ok.head.sized c.read_header.new.records r.0 r.1.good c.in-Ok.head h.2.most)
+    subst (λ (t : Told). InLimits (settings_of c.in-Ok.head t.bounds)) (sym told) (limits_so (names_of c.args.study.now) c.in-Ok.head.sized c.read_header.new.records r.0 r.1.good c.in-Ok.head h.2.most h.2.listed)
 
 pub sheet_from-requires-clause-parts : goal.sheet_from-requires-clause-parts
 sheet_from-requires-clause-parts c =
@@ -46,4 +46,4 @@ returns-clause-fits c =
     let r = c.in-Ok-read_rest.ensures in
     let short : length c.read_header.new.records < 2 ^ 32 = omega (arith, ap length h.1, c.requires) in
     subst (λ (x : num.Sheet Settings). num.FitsCount (length (names_of c.args.study.now)) x) (sym (c.sheet_from.ensures ∙ spelled_by c.in-Ok.head r.0 c.in-Ok-read_rest.draft r.1.told))
-    (sheet_fits (names_of c.args.study.now) c.in-Ok.head.sized c.read_header.new.records r.0 r.1.good c.in-Ok.head h.2.most short)
+    (sheet_fits (names_of c.args.study.now) c.in-Ok.head.sized c.read_header.new.records r.0 r.1.good c.in-Ok.head h.2.most h.2.listed short)

@@ -1,4 +1,7 @@
 use Rattle.ofit_table.proofs.row.weight_of.Goals as goal
 
-pub returns-in-Some : goal.returns-in-Some
-returns-in-Some c = rw c.in-Some.is c.weight_in.ensures
+pub returns-in-Ok : goal.returns-in-Ok
+returns-in-Ok c = rw c.in-Some.is c.in-Ok.ensures
+
+pub returns-in-Err : goal.returns-in-Err
+returns-in-Err c = rw c.in-Some.is c.in-Err.ensures

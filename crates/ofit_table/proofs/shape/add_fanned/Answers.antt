@@ -1,5 +1,5 @@
 use Rattle.std.proofs.Common.{ℕ}
-use Rattle.ofit_table.proofs.Ranges.{pushed-next}
+use Rattle.ofit_num.proofs.Ranges.{pushed-next}
 use Rattle.ofit_table.proofs.shape.add_fanned.Goals as goal
 
 pub loop-i-preserved : goal.loop-i-preserved

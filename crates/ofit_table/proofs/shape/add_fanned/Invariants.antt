@@ -1,5 +1,5 @@
 use Rattle.std.proofs.Common.{◌≡◌, ◌++◌}
-use Rattle.ofit_table.specs.PatternRead.{fanned}
+use Rattle.ofit_num.specs.Pairs.{fanned}
 use Rattle.ofit_table.proofs.shape.add_fanned.Given as goal
 
 abbrev pub invariant-loop-i : goal.invariant-loop-i

@@ -1,5 +1,5 @@
 use Rattle.std.proofs.Common.{ℕ, ◌+◌}
-use Rattle.ofit_table.proofs.Ranges.{pushed-first}
+use Rattle.ofit_num.proofs.Ranges.{pushed-first}
 use Rattle.ofit_table.proofs.shape.add_rising.Goals as goal
 
 pub loop-i-preserved : goal.loop-i-preserved

@@ -1,5 +1,5 @@
 use Rattle.std.proofs.Common.{◌≡◌, ◌++◌}
-use Rattle.ofit_table.specs.PatternRead.{rising_to}
+use Rattle.ofit_num.specs.Pairs.{rising_to}
 use Rattle.ofit_table.proofs.shape.add_rising.Given as goal
 
 abbrev pub invariant-loop-i : goal.invariant-loop-i

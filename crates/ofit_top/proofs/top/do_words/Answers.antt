@@ -1,41 +1,27 @@
-use Rattle.std.proofs.Common.{ap, ◌∙◌, subst}
+use Rattle.std.proofs.Common.{ap, subst, ◌∙◌, ◌<◌, ℕ, List, length}
 use Rattle.ofit_outside.specs.Sink.{with_more, GainsPrefix}
+use Rattle.ofit_answer.specs.declared.answer.Answer.TheVariants.{WriteFault}
 use Rattle.ofit_top.specs.Run.{texts}
-use Rattle.ofit_top.proofs.Endings.{is_read, asked, job_output, job_writes, job_reads, job_puts, stop_writes}
+use Rattle.ofit_top.proofs.Endings.{turned, part_end, job_end}
 use Rattle.ofit_top.proofs.top.do_words.Goals as goal
 
-pub returns-in-Err-do_job-clause-writes : goal.returns-in-Err-do_job-clause-writes
-returns-in-Err-do_job-clause-writes g c =
-    stop_writes (texts c.args.words.now) (g.F.Folder.held c.args.folder.now) (g.O.Sink.written c.args.out.now) c.args.tally.now c.do_job.new.tally c.in-Ok.job c.in-Err-do_job.answer _ _
-    (is_read (texts c.args.words.now) c.in-Ok.job c.in-Ok.ensures.read) c.in-Err-do_job.ensures.stops c.in-Err-do_job.ensures.fetches c.in-Err-do_job.ensures.counts
+pub returns-in_err-printed-clause-ends : goal.returns-in_err-printed-clause-ends
+returns-in_err-printed-clause-ends g c =
+    turned (texts c.args.words.now) _ _ c.from_residual.result _ c.from_residual.ensures.1
+    (c.in_err-printed.ensures.ends.ends (g.F.Folder.held c.print_words.new.folder) (g.O.Sink.written c.args.out.now) (g.O.Sink.faults c.args.out.now))
 
-pub returns-in-Ok-put_text-clause-writes : goal.returns-in-Ok-put_text-clause-writes
-returns-in-Ok-put_text-clause-writes g c =
-    let gives = c.in-Ok-do_job.ensures.gives in
-    job_writes (texts c.args.words.now) (g.F.Folder.held c.args.folder.now) (g.O.Sink.written c.args.out.now) (g.O.Sink.written c.put_text.new.out) c.args.tally.now c.do_job.new.tally c.in-Ok.job
-    c.in-Ok-do_job.printed.answer c.in-Ok-do_job.printed.text.items gives.0 (is_read (texts c.args.words.now) c.in-Ok.job c.in-Ok.ensures.read) gives.1
-    (c.in-Ok-put_text.ensures.ok ∙ ap (with_more (g.O.Sink.written c.args.out.now)) c.as_slice.ensures.value) gives.2
+pub returns-in_err-put_text-clause-ends : goal.returns-in_err-put_text-clause-ends
+returns-in_err-put_text-clause-ends g c =
+    let prints = c.in_ok-printed.ensures.prints in
+    turned (texts c.args.words.now) _ _ c.from_residual-in_err-put_text.result WriteFault c.from_residual-in_err-put_text.ensures.1
+    (part_end (texts c.args.words.now) _ _ prints.ready c.in_ok-printed.printed.answer c.in_ok-printed.printed.text.items prints.asked prints.gives prints.counts
+    (subst (λ (t : List ℕ). 0 < length t) c.as_slice.ensures.value c.in_err-put_text.ensures.some)
+    (subst (GainsPrefix (g.O.Sink.written c.args.out.now) (g.O.Sink.written c.put_text.new.out)) c.as_slice.ensures.value c.in_err-put_text.ensures.err)
+    c.in_ok-printed.ensures.stays c.in_err-put_text.ensures.failed)
 
-pub returns-in-Ok-put_text-clause-reads : goal.returns-in-Ok-put_text-clause-reads
-returns-in-Ok-put_text-clause-reads g c =
-    let gives = c.in-Ok-do_job.ensures.gives in
-    job_reads (g.F.Folder.held c.args.folder.now) c.in-Ok.job c.in-Ok-do_job.printed.answer c.in-Ok-do_job.printed.text.items gives.0 _ _ gives.1 c.in-Ok-do_job.ensures.stays
-
-pub returns-in-Ok-put_text-clause-puts : goal.returns-in-Ok-put_text-clause-puts
-returns-in-Ok-put_text-clause-puts g c =
-    let gives = c.in-Ok-do_job.ensures.gives in
-    job_puts (g.F.Folder.held c.args.folder.now) c.in-Ok.job c.in-Ok-do_job.printed.answer c.in-Ok-do_job.printed.text.items gives.0 _ _ gives.1 c.in-Ok-put_text.ensures.stays
-
-pub returns-clause-writes : goal.returns-clause-writes
-returns-clause-writes g c =
-    let gives = c.in-Ok-do_job.ensures.gives in
-    record {
-      answer = c.in-Ok-do_job.printed.answer;
-      output = job_output (g.F.Folder.held c.args.folder.now) c.in-Ok.job c.in-Ok-do_job.printed.answer c.in-Ok-do_job.printed.text.items gives.0 gives.1;
-      text = c.in-Ok-do_job.printed.text.items;
-      fits = gives.0;
-      gives = asked (texts c.args.words.now) (g.F.Folder.held c.args.folder.now) c.in-Ok.job c.in-Ok-do_job.printed.answer c.in-Ok-do_job.printed.text.items gives.0
-          (is_read (texts c.args.words.now) c.in-Ok.job c.in-Ok.ensures.read) gives.1;
-      put = subst (GainsPrefix (g.O.Sink.written c.args.out.now) (g.O.Sink.written c.put_text.new.out)) c.as_slice.ensures.value c.in-Err-put_text.ensures.err;
-      counts = gives.2;
-    }
+pub returns-clause-ends : goal.returns-clause-ends
+returns-clause-ends g c =
+    let prints = c.in_ok-printed.ensures.prints in
+    job_end (texts c.args.words.now) _ _ prints.ready c.in_ok-printed.printed.answer c.in_ok-printed.printed.text.items prints.asked prints.gives prints.counts
+    (c.in_ok-put_text.ensures.ok ∙ ap (with_more (g.O.Sink.written c.args.out.now)) c.as_slice.ensures.value)
+    c.in_ok-printed.ensures.stays c.in_ok-put_text.ensures.stays

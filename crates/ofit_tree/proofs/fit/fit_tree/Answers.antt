@@ -1,6 +1,6 @@
 use Rattle.std.proofs.Common.{◌≡◌, ℕ, sym, subst, List, length}
 use Rattle.ofit_num.specs.Fraction.{Fraction}
-use Rattle.ofit_tree.specs.declared.forest.Slot.{Slot}
+use Rattle.ofit_tree.specs.declared.slot.Slot.{Slot}
 use Rattle.ofit_tree.specs.Forest.{AreAllSettled, AreSettledValues}
 use Rattle.ofit_tree.proofs.Queues.{all_settled}
 use Rattle.ofit_tree.proofs.Ending.{values_settled, values_least_settled, values_least_best}

@@ -2,7 +2,7 @@ use Rattle.std.proofs.Common.{◌≡◌, ℕ, ◌<◌, refl, sym, ap, subst, ◌
 use Rattle.std.proofs.lemmas.Option.{slice_get_read}
 use Rattle.std.proofs.lemmas.List.Elements.{All-get_or}
 use Rattle.std.specs.Prelude.{All, slice_get, slice_index, Some}
-use Rattle.ofit_tree.specs.declared.forest.Slot.{Slot}
+use Rattle.ofit_tree.specs.declared.slot.Slot.{Slot}
 use Rattle.ofit_tree.specs.Forest.{AreSettledValues}
 use Rattle.ofit_tree.proofs.Closing.{open_settled, settled_joined}
 use Rattle.ofit_tree.proofs.Queues.{values_more}

@@ -2,13 +2,13 @@ use Rattle.std.proofs.Common.{◌≡◌, ℕ, ◌<◌, sym, ap, subst, ◌∙◌
 use Rattle.std.proofs.lemmas.List.{length-set}
 use Rattle.std.specs.Prelude.{slice_get, Some}
 use Rattle.ofit_tree.specs.declared.block.Block.{Block}
-use Rattle.ofit_tree.specs.declared.forest.Slot.{Slot}
-use Rattle.ofit_tree.specs.declared.forest.Slot.TheVariants.{Open, Joined}
+use Rattle.ofit_tree.specs.declared.slot.Slot.{Slot}
+use Rattle.ofit_tree.specs.declared.slot.Slot.TheVariants.{Open, Joined}
 use Rattle.std.specs.BinaryHeap.{heap_items}
 use Rattle.ofit_tree.specs.Merge.{IsRenumbered}
-use Rattle.ofit_tree.proofs.Slots.{other_set}
 use Rattle.ofit_tree.proofs.Steps.{both_apart, can_merge, upper_inside, child_inside, number_below, step_absorbs, step_count}
 use Rattle.ofit_tree.proofs.forest.absorb.Goals as goal
+use Rattle.ofit_num.proofs.Elements.{other_set}
 
 -- a block that waits still does where another slot was changed
 still_open : {P : Type 0} (slots slots1 : List (Slot P)) (above below : ℕ) (b : Block P) → slots1 ≡ set slots above Joined → (above ≡ below → ⊥) → slice_get slots below ≡ Some (Open b) → slice_get slots1 below ≡ Some (Open b)

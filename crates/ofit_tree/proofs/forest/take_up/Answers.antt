@@ -1,5 +1,5 @@
 use Rattle.std.proofs.Common.{ℕ, subst, arith, List}
-use Rattle.ofit_tree.specs.declared.forest.Slot.{Slot}
+use Rattle.ofit_tree.specs.declared.slot.Slot.{Slot}
 use Rattle.ofit_tree.specs.Forest.{IsCurrent, IsOutdated, IsOpenAbove, IsNoneAbove}
 use Rattle.ofit_tree.proofs.Steps.{step_passes, entry_inside, top_inside, step_settles, settles_count}
 use Rattle.ofit_tree.proofs.forest.take_up.Goals as goal

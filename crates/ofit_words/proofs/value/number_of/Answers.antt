@@ -1,5 +1,8 @@
-use Rattle.ofit_words.proofs.Numbers.{no_number}
+use Rattle.std.proofs.Common.{ℕ, List, subst}
+use Rattle.std.specs.Prelude.{MatchOption}
+use Rattle.ofit_words.specs.Values.{IsNumberIn}
 use Rattle.ofit_words.proofs.value.number_of.Goals as goal
 
-pub returns-in-Err : goal.returns-in-Err
-returns-in-Err c = no_number c.args.value.now c.as_bytes.result.now c.args.low c.args.high c.from.result c.in-Err.field-0 c.as_bytes.ensures.value c.from.ensures c.in-Err.ensures.not_whole c.in-Err.ensures.too_large
+pub returns : goal.returns
+returns c =
+    subst (λ (t : List ℕ). MatchOption c.number_in.result ((n : ℕ) → IsNumberIn c.args.low c.args.high t n → ⊥) (λ n. IsNumberIn c.args.low c.args.high t n)) c.as_bytes.ensures.value c.number_in.ensures

@@ -1,0 +1,12 @@
+-- That a verdict speaks of groups and pairs of the study.
+use Rattle.std.specs.Prelude.{◌<◌, length, ⊤}
+use Rattle.ofit_study.specs.Study.{Study, names_of}
+use Rattle.ofit_check.specs.declared.verdict.Verdict.{Verdict}
+use Rattle.ofit_check.specs.declared.verdict.Verdict.TheVariants.{GroupMissing, Disobeys, OutOfBounds, Balance}
+
+abbrev pub IsNamed : Study → Verdict → Type 0
+IsNamed s (GroupMissing place) = place < length (names_of s)
+IsNamed s (Disobeys index) = index < length s.pairs
+IsNamed s (OutOfBounds place) = place < length (names_of s)
+IsNamed s (Balance place) = place < length (names_of s)
+IsNamed s verdict = ⊤

@@ -1,5 +1,0 @@
-use Rattle.ofit_cert.proofs.Places.{rows_fittable}
-use Rattle.ofit_cert.proofs.spans.span_of.Goals as goal
-
-pub ends_of-least-requires : goal.ends_of-least-requires
-ends_of-least-requires c = rows_fittable c.args.study.now c.group_count-groups.ensures.valid c.args.place c.rows_of.result.now c.rows_of.ensures

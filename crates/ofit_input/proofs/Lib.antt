@@ -1,0 +1,4 @@
+pub mod Results
+pub mod OneFile
+pub mod OneGiven
+pub mod OneReady

@@ -1,0 +1,4 @@
+pub mod Carried
+pub mod Refitting
+pub mod Touches
+pub mod Untouched

@@ -1,0 +1,3 @@
+pub mod Fittable
+pub mod Balanced
+pub mod StatedLosses

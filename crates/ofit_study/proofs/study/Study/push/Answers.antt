@@ -1,0 +1,20 @@
+use Rattle.std.proofs.Common.{◌≡◌, ◌∙◌, ℕ, List, ap, sym, subst, slice_get, Some}
+use Rattle.std.proofs.lemmas.Option.{slice_get_within}
+use Rattle.ofit_study.specs.Study.{IsValid, names_of}
+use Rattle.ofit_study.specs.Adding.{observation, with_row}
+use Rattle.ofit_study.proofs.Pushing.{name_at-get}
+use Rattle.ofit_study.proofs.study.Study.push.Goals as goal
+
+pub add_to_group-requires-clause-place : goal.add_to_group-requires-clause-place
+add_to_group-requires-clause-place c =
+    let i = c.self.inside in
+    let names : i.names ≡ names_of c.args.self.now = c.self.invariant.names_are ∙ ap names_of c.self.view_is in
+    let here : slice_get (names_of c.args.self.now) c.in-Some.place ≡ Some c.args.name.now = subst (λ (t : List (List ℕ)). slice_get t c.in-Some.place ≡ Some c.args.name.now) names c.in-Some.ensures in
+    slice_get_within (names_of c.args.self.now) c.in-Some.place c.args.name.now here
+
+pub add_to_group-requires-clause-valid : goal.add_to_group-requires-clause-valid
+add_to_group-requires-clause-valid c =
+    let i = c.self.inside in
+    let names : i.names ≡ names_of c.args.self.now = c.self.invariant.names_are ∙ ap names_of c.self.view_is in
+    let here : slice_get (names_of c.args.self.now) c.in-Some.place ≡ Some c.args.name.now = subst (λ (t : List (List ℕ)). slice_get t c.in-Some.place ≡ Some c.args.name.now) names c.in-Some.ensures in
+    subst (λ (n : List ℕ). IsValid (with_row c.args.self.now (observation n c.args.row))) (sym (name_at-get (names_of c.args.self.now) c.in-Some.place c.args.name.now here)) c.requires

@@ -1,7 +1,0 @@
-use Rattle.std.proofs.Common.{take, map, []}
-use Rattle.std.specs.Prelude.{string_bytes}
-use Rattle.ofit_words.specs.Given.{AreFine}
-use Rattle.ofit_words.proofs.check.check.Given as goal
-
-abbrev pub invariant-loop-at : goal.invariant-loop-at
-invariant-loop-at l = AreFine l.command l.force.places l.force.groups [] (map string_bytes (take l.at l.settings))
