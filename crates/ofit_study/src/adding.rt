@@ -58,7 +58,7 @@ impl Study {
         if weight > MOST_WEIGHT - self.total_weight() {
             return Err(AddFault::TooHeavy);
         }
-        if self.group_count() >= MOST_GROUPS && self.place_of(name).is_none() {
+        if self.group_count() >= MOST_GROUPS && self.place_near(name).is_none() {
             return Err(AddFault::TooManyGroups);
         }
         Ok(())

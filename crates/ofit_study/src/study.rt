@@ -73,6 +73,15 @@ impl Study {
         }
     }
 
+    /// The place of the group with a name, as `place_of` gives it. It is found without hashing where it is
+    /// that of the last row, or the next one.
+    pub(crate) fn place_near(&self, name: &[u8]) -> Option<u32>
+        ensures { MatchOption result (All (λ known. known ≢ name.now) (names_of self.now))
+            (λ place. slice_get (names_of self.now) place ≡ Some name.now) }
+    {
+        self.names.place_near(self.latest_place(), name)
+    }
+
     /// How many rows have the numbers from 1 on, before the least number that no row has.
     pub(crate) fn first_gap(&self) -> usize
         ensures { IsFirstGap (map (λ r. r.number) self.now.rows) result }
