@@ -42,6 +42,35 @@ costs <- apply(vectors, 1, function(v) sum(mapply(function(rows, fit) sum(abs(ro
 least <- apply(vectors[costs == min(costs), , drop = FALSE], 2, min)
 try_set("warpbreaks", warpbreaks$tension, warpbreaks$breaks, least, "umbrella:L", "median", 0)
 
+# medians with an unknown peak: the first peak of least cost among all vectors of values, and there the least fit
+levels <- split(PlantGrowth$weight, PlantGrowth$group)
+v <- as.matrix(expand.grid(rep(list(sort(unique(PlantGrowth$weight))), 3)))
+costs <- round(apply(v, 1, function(fit) sum(mapply(function(rows, at) sum(abs(rows - at)), levels, fit))), 6)
+has_peak <- list(v[, 1] >= v[, 2] & v[, 2] >= v[, 3], v[, 1] <= v[, 2] & v[, 2] >= v[, 3], v[, 1] <= v[, 2] & v[, 2] <= v[, 3])
+lowest <- vapply(has_peak, function(with) min(costs[with]), 0)
+peak <- which(lowest == min(lowest))[1]
+theirs <- apply(v[has_peak[[peak]] & costs == min(lowest), , drop = FALSE], 2, min)
+data <- data.frame(group = as.character(PlantGrowth$group), value = PlantGrowth$weight)
+fit <- ofit_unimodal(data, places = 2)
+same <- isTRUE(all.equal(fit$values$fit, unname(theirs), tolerance = 1e-9)) && fit$peak == names(levels)[peak]
+same <- same && isTRUE(all.equal(as.numeric(fit$cost) / 100, min(lowest), tolerance = 1e-9))
+passes <- ofit_verify_unimodal(data, fit$sheet, places = 2) == "passes"
+write.csv(data, "peak.csv")
+cat(fit$sheet, file = "peak.sheet")
+cat("peak\tpeak\tmedian\t2\n", file = "sets.txt", append = TRUE)
+cat("PlantGrowth with an unknown peak from R:", if (same && passes) "as R's own\n" else "DIFFERS\n")
+wrong <- wrong + !(same && passes)
+
+# a session: a row that is changed gives the fit of the changed table, under a name that needs quotes
+data <- data.frame(group = c("A", "B \"x\", 1", "C"), value = c(1, 3, 2))
+steps <- ofit_session(data, list(c("value", 3, 2.5), c("add", "B \"x\", 1", 4, 2), c("remove", 9), "sheet"), places = 1)
+changed <- ofit_fit(data.frame(group = data$group[c(1, 2, 3, 2)], value = c(1, 3, 2.5, 4), weight = c(1, 1, 1, 2)), places = 1)
+answers <- vapply(steps, function(step) step$answer, "")
+told <- identical(answers, c("refitted 1 of 1", "refitted 1 of 1", "refused no row", "sheet")) &&
+  paste0(steps[[4]]$text, "\n", collapse = "") == changed$sheet
+cat("a session from R:", if (told) "as a fresh fit\n" else "DIFFERS\n")
+wrong <- wrong + !told
+
 # a missing value is refused with its record
 refused <- tryCatch(ofit_fit(data.frame(group = airquality$Month, value = airquality$Ozone)), error = conditionMessage)
 told <- refused == sprintf("ofit: data record %d: not a number", which(is.na(airquality$Ozone))[1] + 1)

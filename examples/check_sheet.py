@@ -158,7 +158,7 @@ def read_pairs(order, groups):
     return sorted(pairs)
 
 
-def read_settings(words):
+def read_settings(words, keys=(b"order", b"loss", b"places", b"lo", b"hi")):
     """The settings by key, bounds in units."""
     given, places = {}, 3
     first = next((word[7:] for word in words if word.startswith(b"places=")), b"3")
@@ -166,7 +166,7 @@ def read_settings(words):
         places = int(first)
     for number, word in enumerate(words, 3):
         key, equals, value = word.partition(b"=")
-        if not equals or key not in (b"order", b"loss", b"places", b"lo", b"hi"):
+        if not equals or key not in keys:
             raise Refused(2, f"unknown setting at word {number}")
         if key in given:
             raise Refused(2, f"repeated setting at word {number}")
@@ -319,16 +319,16 @@ def check(words):
         return refused.args[0], refused.args[1].encode()
 
 
-def examples():
-    """The sheets of runs.txt: for each the words of its data, sheet and settings."""
+def examples(wanted=b"fit"):
+    """The outputs of runs.txt by a command: for each the words of its data, output and settings."""
     here = os.path.dirname(os.path.abspath(__file__))
     os.chdir(here)
     with open("runs.txt", "rb") as file:
         for line in file:
             output, _, words = line.strip().partition(b": ")
-            command, data, *settings = words.split(b" ")
-            if command == b"fit":
-                yield [data, output, *settings]
+            command, *names = words.split(b" ")
+            if command == wanted:
+                yield [names[0], output, *names[1:]]
 
 
 DAMAGES = (
@@ -440,36 +440,38 @@ def cases(folder, chance):
         yield [data, sheet, *settings]
 
 
-def compare(program, seed):
-    """Whether the program and this script say the same of each case: 0 or 1. Tells how often each answer came."""
+def compare(program, command, check, cases, seed):
+    """Whether a program's command and a check say the same of each case: 0 or 1. Tells how often each answer came."""
     program, seen, differ = os.path.abspath(program), collections.Counter(), 0
     with tempfile.TemporaryDirectory() as folder:
         for number, words in enumerate(cases(folder, random.Random(seed)), 1):
             ours = check(words)
-            ran = subprocess.run([program, b"verify", *words], capture_output=True)
+            ran = subprocess.run([program, command, *words], capture_output=True)
             text = ran.stdout if ran.returncode < 2 else ran.stderr.replace(b"ofit: ", b"", 1)
             if (ran.returncode, text) != (ours[0], ours[1] + b"\n"):
                 differ += 1
                 print(f"case {number}: the program says {ran.returncode} {text}, this script {ours}")
             answer = re.sub(rb"(record|word|flow) [0-9]+", rb"\1", ours[1]).decode("utf-8", "replace")
-            seen[re.sub("^(fails (missing|order|bounds|balance)) .*", r"\1", answer)] += 1
+            seen[re.sub("^(fails (missing|order|bounds|balance|shape|rise|fall|not least)) .*", r"\1", answer)] += 1
     for answer, times in sorted(seen.items()):
         print(f"{times:5} {answer}")
     print(f"{sum(seen.values())} cases, {differ} differ")
     return int(differ > 0)
 
 
-def main():
+def main(name, command, check, cases):
+    """What a checker of this name does: compares with a command of a program, or checks what its words say."""
     if hasattr(sys, "set_int_max_str_digits"):
         sys.set_int_max_str_digits(0)
     if sys.argv[1:2] == ["--compare"]:
-        sys.exit(compare(sys.argv[2], int(sys.argv[3]) if len(sys.argv) > 3 else 1))
+        program, seed = sys.argv[2], int(sys.argv[3]) if len(sys.argv) > 3 else 1
+        sys.exit(compare(program, command, check, cases, seed))
     status, line = check([word.encode("utf-8", "surrogateescape") for word in sys.argv[1:]])
     if status > 1:
-        sys.exit(print("check_sheet: " + line.decode(), file=sys.stderr) or status)
+        sys.exit(print(f"{name}: " + line.decode(), file=sys.stderr) or status)
     sys.stdout.buffer.write(line + b"\n")
     sys.exit(status)
 
 
 if __name__ == "__main__":
-    main()
+    main("check_sheet", b"verify", check, cases)

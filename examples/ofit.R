@@ -1,10 +1,12 @@
-# Calls ofit from R: ofit_fit(data, settings) and ofit_verify(data, sheet, settings). Base R alone.
+# Calls ofit from R: ofit_fit, ofit_verify, ofit_unimodal, ofit_verify_unimodal and ofit_session. Base R alone.
 #
 #   source("examples/ofit.R")
 #   data <- data.frame(group = c("A", "B", "C"), value = c(1, 3, 2))
 #   fit <- ofit_fit(data, places = 0)
 #   fit$values                                  # group, num, den (text, exact, in units of 10^-places), fit
 #   ofit_verify(data, fit$sheet, places = 0)    # "passes"
+#   ofit_unimodal(data, places = 0)$peak        # "B"
+#   ofit_session(data, list(c("value", 3, 4), "report"), places = 0)[[1]]$answer    # "refitted 1 of 1"
 #
 # data has the columns group, value and, if there is one, weight; groups are numbered in the order of their first
 # rows, and nothing is sorted. Values are written with all their digits and never rounded unless digits = asks for it.
@@ -33,10 +35,36 @@ ofit_fit <- function(data, order = "chain", loss = "squares", places = 3, lo = N
 ofit_verify <- function(data, sheet, order = "chain", loss = "squares", places = 3, lo = NULL, hi = NULL,
                         digits = NULL) {
   folder <- tempfile("ofit"); dir.create(folder); on.exit(unlink(folder, recursive = TRUE))
-  file <- file.path(folder, "sheet")
-  .ofit_put(sub("\n$", "", paste(sheet, collapse = "\n")), file)
-  words <- c(.ofit_written(folder, data, digits), file, .ofit_settings(folder, order, loss, places, lo, hi))
-  .ofit_called("verify", words)
+  words <- c(.ofit_written(folder, data, digits), .ofit_lines(folder, sheet))
+  .ofit_called("verify", c(words, .ofit_settings(folder, order, loss, places, lo, hi)))
+}
+
+# medians that rise up to a peak and fall from it, the peak among all groups: the first of least cost
+ofit_unimodal <- function(data, places = 3, digits = NULL) {
+  folder <- tempfile("ofit"); dir.create(folder); on.exit(unlink(folder, recursive = TRUE))
+  sheet <- .ofit_called("unimodal", c(.ofit_written(folder, data, digits), paste0("places=", places)))
+  records <- .ofit_records(sheet, 4)
+  values <- setNames(records[records[[1]] == "value", 2:3], c("group", "units"))
+  values$fit <- as.numeric(values$units) / 10^places
+  list(peak = records[2, 2], cost = records[2, 3], values = `rownames<-`(values, NULL),
+       sheet = paste0(sheet, "\n", collapse = ""))
+}
+
+ofit_verify_unimodal <- function(data, sheet, places = 3, digits = NULL) {
+  folder <- tempfile("ofit"); dir.create(folder); on.exit(unlink(folder, recursive = TRUE))
+  words <- c(.ofit_written(folder, data, digits), .ofit_lines(folder, sheet))
+  .ofit_called("verify-unimodal", c(words, paste0("places=", places)))
+}
+
+# edits is a list of lines such as c("value", 3, 12.5) or "report"; for each its answer, and the lines of its text
+ofit_session <- function(data, edits, order = "chain", loss = "squares", places = 3, lo = NULL, hi = NULL,
+                         digits = NULL) {
+  folder <- tempfile("ofit"); dir.create(folder); on.exit(unlink(folder, recursive = TRUE))
+  script <- vapply(edits, function(edit) paste(.ofit_quoted(.ofit_text(edit)), collapse = ","), "")
+  words <- c(.ofit_written(folder, data, digits), .ofit_lines(folder, script))
+  lines <- .ofit_called("session", c(words, .ofit_settings(folder, order, loss, places, lo, hi)))
+  steps <- split(lines, cumsum(grepl("^line [0-9]+: ", lines)))
+  lapply(unname(steps), function(step) list(answer = sub("^line [0-9]+: ", "", step[1]), text = step[-1]))
 }
 
 .ofit_text <- function(x) enc2utf8(as.character(x))
@@ -52,13 +80,22 @@ ofit_verify <- function(data, sheet, order = "chain", loss = "squares", places =
   }, "")
 }
 
+.ofit_quoted <- function(x) sprintf('"%s"', gsub('"', '""', x, fixed = TRUE))
+
 .ofit_put <- function(lines, file) {
   to <- base::file(file, "wb"); on.exit(close(to))
   writeLines(lines, to, useBytes = TRUE)
 }
 
+# a file of the text of a sheet, or of the lines of a script
+.ofit_lines <- function(folder, lines) {
+  file <- file.path(folder, "lines")
+  .ofit_put(sub("\n$", "", paste(lines, collapse = "\n")), file)
+  file
+}
+
 .ofit_table <- function(columns, file) {
-  quoted <- lapply(columns, function(x) sprintf('"%s"', gsub('"', '""', x, fixed = TRUE)))
+  quoted <- lapply(columns, .ofit_quoted)
   header <- paste(names(columns), collapse = ",")
   .ofit_put(c(header, do.call(paste, c(unname(quoted), sep = ","))), file)
   file

@@ -1,10 +1,12 @@
-"""Calls ofit from Python: fit(rows, settings) and verify(rows, sheet, settings). Standard library alone.
+"""Calls ofit from Python: fit, verify, unimodal, verify_unimodal and session. Standard library alone.
 
     import ofit
     rows = [("A", 1), ("B", 3), ("C", 2)]
     fit = ofit.fit(rows, places=0)
     fit.values["B"], fit.floats["B"]    # Fraction(5, 2), 2.5
     ofit.verify(rows, fit.sheet, places=0)    # "passes"
+    ofit.unimodal(rows, places=0).peak    # "B"
+    ofit.session(rows, [("value", 3, 4), ("report",)], places=0)[0].answer    # "refitted 1 of 1"
 
 Rows are (group, value) or (group, value, weight), in the order in which groups are to be numbered; nothing is
 sorted, and groups come back as text. A value is written as str() spells it, so "12.50", Decimal and float all go
@@ -15,6 +17,7 @@ variable OFIT names, or `ofit` on the path. What it refuses raises OfitError wit
 import csv
 import io
 import os
+import re
 import subprocess
 import tempfile
 from collections import namedtuple
@@ -24,6 +27,8 @@ from fractions import Fraction
 Fit = namedtuple("Fit", "values floats blocks flows sheet")
 Block = namedtuple("Block", "groups weight value cost")
 Flow = namedtuple("Flow", "low high amount")
+Peak = namedtuple("Peak", "peak cost values floats sheet")
+Step = namedtuple("Step", "answer text")
 
 
 class OfitError(Exception):
@@ -64,11 +69,43 @@ def fit(rows, order="chain", loss="squares", places=3, lo=None, hi=None, digits=
 def verify(rows, sheet, order="chain", loss="squares", places=3, lo=None, hi=None, digits=None):
     """The line that `ofit verify` writes of a sheet's text: "passes", or one that begins with "fails"."""
     with tempfile.TemporaryDirectory() as folder:
-        data = _written(folder, rows, digits)
-        name = os.path.join(folder, "sheet")
-        with open(name, "w", encoding="utf-8", newline="") as file:
-            file.write(sheet)
-        return _called("verify", data + [name] + _settings(folder, order, loss, places, lo, hi)).rstrip("\n")
+        words = _written(folder, rows, digits) + _file(folder, "sheet", sheet)
+        return _called("verify", words + _settings(folder, order, loss, places, lo, hi)).rstrip("\n")
+
+
+def unimodal(rows, places=3, digits=None):
+    """The medians of rows that rise up to a peak and fall from it, the peak among all groups: the first of least cost."""
+    with tempfile.TemporaryDirectory() as folder:
+        sheet = _called("unimodal", _written(folder, rows, digits) + [f"places={places}"])
+    unit, records = Fraction(1, 10**places), list(csv.reader(io.StringIO(sheet, newline="")))
+    values = {group: int(value) * unit for kind, group, value, _ in records if kind == "value"}
+    floats = {group: float(value) for group, value in values.items()}
+    return Peak(records[1][1], int(records[1][2]) * unit, values, floats, sheet)
+
+
+def verify_unimodal(rows, sheet, places=3, digits=None):
+    """The line that `ofit verify-unimodal` writes of a peaked sheet's text."""
+    with tempfile.TemporaryDirectory() as folder:
+        words = _written(folder, rows, digits) + _file(folder, "sheet", sheet)
+        return _called("verify-unimodal", words + [f"places={places}"]).rstrip("\n")
+
+
+def session(rows, edits, order="chain", loss="squares", places=3, lo=None, hi=None, digits=None):
+    """What a session answers to edits such as ("value", 3, "12.5") or ("report",): for each its answer, and the text of
+    a report or a sheet."""
+    script = io.StringIO(newline="")
+    csv.writer(script, lineterminator="\n").writerows(edits)
+    with tempfile.TemporaryDirectory() as folder:
+        words = _written(folder, rows, digits) + _file(folder, "script", script.getvalue())
+        text = _called("session", words + _settings(folder, order, loss, places, lo, hi))
+    return [Step(*step.split("\n", 1)) for step in re.split(r"^line [0-9]+: ", text, flags=re.MULTILINE)[1:]]
+
+
+def _file(folder, name, text):
+    path = os.path.join(folder, name)
+    with open(path, "w", encoding="utf-8", newline="") as file:
+        file.write(text)
+    return [path]
 
 
 def _spelled(value, digits):

@@ -2,11 +2,12 @@
 use Rattle.std.proofs.Common.{◌≡◌, ℕ, ◌<◌, List, [], ◌++◌, length, sym, ap, ap₂, subst, ◌∙◌, append_assoc}
 use Rattle.std.proofs.lemmas.List.{get_or-map}
 use Rattle.std.proofs.lemmas.Option.{get_or_from_slice_get}
-use Rattle.std.specs.Prelude.{Contains, slice_get, Some, codes}
+use Rattle.std.specs.Prelude.{Contains, slice_get, Some, codes, decimal}
 use Rattle.ofit_study.specs.Kept.{name_at}
 use Rattle.ofit_study.specs.Study.{Study, IsValid, names_of, places_of, place_among}
 use Rattle.ofit_study.proofs.Stating.{name_at-place}
-use Rattle.ofit_answer.specs.VerdictText.{group_fault, pair_names, pair_fault}
+use Rattle.ofit_answer.specs.VerdictText.{group_fault, group_text, pair_names, pair_fault}
+use Rattle.ofit_answer.specs.PeakVerdictText.{side_fault}
 
 pub name_joined : (fault : List ℕ) (s : Study) (place : ℕ) (words name text : List ℕ) → words ≡ fault → slice_get (names_of s) place ≡ Some name
     → text ≡ codes "fails " ++ (words ++ (codes " " ++ (name ++ codes "\n"))) → text ≡ group_fault fault s place
@@ -16,6 +17,16 @@ name_joined fault s place words name text same at_place e =
   where
     joined : (a b : List ℕ) → codes "fails " ++ (a ++ (codes " " ++ (b ++ codes "\n"))) ≡ codes "fails " ++ a ++ codes " " ++ b ++ codes "\n"
     joined a b = simp append_assoc
+
+pub side_joined : (fault : List ℕ) (number : ℕ) (s : Study) (place : ℕ) (words digits name text : List ℕ) → words ≡ fault → digits ≡ decimal number → slice_get (names_of s) place ≡ Some name
+    → text ≡ codes "fails " ++ (words ++ (codes " " ++ (digits ++ (codes " " ++ (name ++ codes "\n"))))) → text ≡ side_fault fault number s place
+side_joined fault number s place words digits name text same spelled at_place e =
+    e ∙ ap₂ (λ (a b : List ℕ). codes "fails " ++ (a ++ (codes " " ++ (b ++ (codes " " ++ (name ++ codes "\n")))))) same spelled
+    ∙ ap (λ (c : List ℕ). codes "fails " ++ (fault ++ (codes " " ++ (decimal number ++ (codes " " ++ (c ++ codes "\n")))))) (sym (get_or_from_slice_get (names_of s) place name [] at_place))
+    ∙ joined fault (decimal number) (group_text s place)
+  where
+    joined : (a b c : List ℕ) → codes "fails " ++ (a ++ (codes " " ++ (b ++ (codes " " ++ (c ++ codes "\n"))))) ≡ codes "fails " ++ a ++ codes " " ++ b ++ codes " " ++ c ++ codes "\n"
+    joined a b c = simp append_assoc
 
 -- a pair
 module _ (s : Study) (v : IsValid s) (k : ℕ) (l : k < length s.pairs) (p : ℕ × ℕ) (e : slice_get (places_of s) k ≡ Some p) where

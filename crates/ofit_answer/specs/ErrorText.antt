@@ -10,6 +10,8 @@ use Rattle.ofit_table.specs.declared.fault.OrderFault.{OrderFault}
 use Rattle.ofit_table.specs.declared.fault.OrderFault.TheVariants as order
 use Rattle.ofit_sheet.specs.declared.fault.SheetFault.{SheetFault}
 use Rattle.ofit_sheet.specs.declared.fault.SheetFault.TheVariants as sheet
+use Rattle.ofit_script.specs.declared.fault.ScriptFault.{ScriptFault}
+use Rattle.ofit_script.specs.declared.fault.ScriptFault.TheVariants as script
 use Rattle.ofit_input.specs.declared.refusal.Which.{Which}
 use Rattle.ofit_input.specs.declared.refusal.Which.TheVariants as which
 use Rattle.ofit_input.specs.declared.refusal.Refusal.{Refusal}
@@ -25,6 +27,7 @@ abbrev pub file_text : Which → List ℕ
 file_text which.Table = codes "data"
 file_text which.Pairs = codes "order"
 file_text which.Sheet = codes "sheet"
+file_text which.Script = codes "script"
 
 abbrev pub memory_text : List ℕ
 memory_text = codes "out of memory"
@@ -89,18 +92,33 @@ sheet_text sheet.NoEnd = of_file which.Sheet (codes "no end")
 sheet_text (sheet.AfterEnd number) = at_record which.Sheet number (codes "record after the end")
 sheet_text sheet.Memory = memory_text
 
+abbrev pub script_text : ScriptFault → List ℕ
+script_text (script.TooManyLines number) = at_record which.Script number (codes "too many lines")
+script_text (script.TooManyPrints number) = at_record which.Script number (codes "too many reports")
+script_text (script.UnknownLine number) = at_record which.Script number (codes "unknown line")
+script_text (script.FieldCount number) = at_record which.Script number (codes "wrong number of fields")
+script_text (script.NotName number) = at_record which.Script number (codes "not a name")
+script_text (script.BadRow number) = at_record which.Script number (codes "bad row number")
+script_text (script.NotNumber number) = at_record which.Script number (codes "not a number")
+script_text (script.TooFine number) = at_record which.Script number (codes "too many decimals")
+script_text (script.TooLarge number) = at_record which.Script number (codes "number too large")
+script_text (script.BadWeight number) = at_record which.Script number (codes "bad weight")
+script_text script.Memory = memory_text
+
 abbrev pub refusal_text : Refusal → List ℕ
 refusal_text (refusal.FileMissing file) = of_file file (codes "no such file")
 refusal_text (refusal.FileLong file) = of_file file (codes "file too long")
 refusal_text (refusal.Table fault) = data_text fault
 refusal_text (refusal.Pairs fault) = order_text fault
 refusal_text (refusal.Sheet fault) = sheet_text fault
-refusal_text refusal.NotBuilt = codes "not built"
+refusal_text refusal.TooManyForPeak = codes "too many groups for an unknown peak"
+refusal_text (refusal.Script fault) = script_text fault
 
 -- a run whose whole output was written has none
 abbrev pub error_line : Answer → Option (List ℕ)
 error_line answer.Done = None
 error_line (answer.Fails verdict) = None
+error_line (answer.FailsPeak verdict) = None
 error_line (answer.Words fault) = Some (line_of (words_text fault))
 error_line (answer.Refused refusal) = Some (line_of (refusal_text refusal))
 error_line answer.ReadFault = Some (line_of (codes "read fault"))

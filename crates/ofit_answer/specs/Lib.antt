@@ -4,4 +4,5 @@ pub mod MessageText
 pub mod Status
 pub mod Tells
 pub mod VerdictText
+pub mod PeakVerdictText
 pub mod Named

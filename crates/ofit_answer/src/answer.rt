@@ -1,7 +1,7 @@
 ghost use Rattle.std.specs.Prelude.{◌≡◌};
 ghost use Rattle.ofit_answer.specs.Status.{status_of};
 
-use ofit_check::Verdict;
+use ofit_check::{PeakVerdict, Verdict};
 use ofit_input::Refusal;
 use ofit_words::WordFault;
 
@@ -12,6 +12,8 @@ pub enum Answer {
     Done,
     /// The whole output was written: the verdict on a sheet that doesn't pass.
     Fails(Verdict),
+    /// The whole output was written: the verdict on a peaked sheet that doesn't pass.
+    FailsPeak(PeakVerdict),
     /// The words of the call have a fault, and nothing was written.
     Words(WordFault),
     /// The inputs were refused, and nothing was written.
@@ -30,7 +32,7 @@ pub fn status(answer: &Answer) -> u8
 {
     match answer {
         Answer::Done => 0,
-        Answer::Fails(_) => 1,
+        Answer::Fails(_) | Answer::FailsPeak(_) => 1,
         Answer::Words(_) => 2,
         Answer::Refused(_) => 3,
         Answer::ReadFault => 4,

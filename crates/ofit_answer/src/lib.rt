@@ -7,8 +7,10 @@ mod answer;
 mod ending;
 mod line;
 mod message;
+mod peak_verdict;
 mod verdict;
 
 pub use answer::{Answer, status};
 pub use line::tell;
+pub use peak_verdict::peak_verdict_line;
 pub use verdict::verdict_line;

@@ -18,6 +18,7 @@ fn file_name(file: Which) -> &'static [u8]
         Which::Table => b"data",
         Which::Pairs => b"order",
         Which::Sheet => b"sheet",
+        Which::Script => b"script",
     }
 }
 

@@ -1,9 +1,10 @@
 ghost use Rattle.std.specs.Prelude.{◌≡◌, Some, None, MatchOption};
-ghost use Rattle.ofit_answer.specs.ErrorText.{line_of, words_text, data_text, order_text, sheet_text, refusal_text, error_line};
+ghost use Rattle.ofit_answer.specs.ErrorText.{line_of, words_text, data_text, order_text, sheet_text, script_text, refusal_text, error_line};
 ghost use Rattle.ofit_answer.specs.MessageText.{message_text};
 
 use crate::answer::Answer;
 use ofit_input::{Refusal, Which};
+use ofit_script::ScriptFault;
 use ofit_sheet::SheetFault;
 use ofit_table::{Column, DataFault, OrderFault};
 use ofit_words::WordFault;
@@ -94,6 +95,30 @@ fn sheet_message(fault: SheetFault) -> Message
     }
 }
 
+/// The text of a fault of the script.
+fn script_message(fault: ScriptFault) -> Message
+    ensures { message_text result ≡ script_text fault }
+{
+    let file = Which::Script;
+    match fault {
+        ScriptFault::TooManyLines(record) => Message::AtRecord(file, record, "too many lines"),
+        ScriptFault::TooManyPrints(record) => Message::AtRecord(file, record, "too many reports"),
+        ScriptFault::UnknownLine(record) => Message::AtRecord(file, record, "unknown line"),
+        ScriptFault::FieldCount(record) => Message::AtRecord(
+            file,
+            record,
+            "wrong number of fields",
+        ),
+        ScriptFault::NotName(record) => Message::AtRecord(file, record, "not a name"),
+        ScriptFault::BadRow(record) => Message::AtRecord(file, record, "bad row number"),
+        ScriptFault::NotNumber(record) => Message::AtRecord(file, record, "not a number"),
+        ScriptFault::TooFine(record) => Message::AtRecord(file, record, "too many decimals"),
+        ScriptFault::TooLarge(record) => Message::AtRecord(file, record, "number too large"),
+        ScriptFault::BadWeight(record) => Message::AtRecord(file, record, "bad weight"),
+        ScriptFault::Memory => Message::Plain("out of memory"),
+    }
+}
+
 /// The text of a refusal.
 fn refusal_message(refusal: Refusal) -> Message
     ensures { message_text result ≡ refusal_text refusal }
@@ -104,7 +129,8 @@ fn refusal_message(refusal: Refusal) -> Message
         Refusal::Table(fault) => data_message(fault),
         Refusal::Pairs(fault) => order_message(fault),
         Refusal::Sheet(fault) => sheet_message(fault),
-        Refusal::NotBuilt => Message::Plain("not built"),
+        Refusal::Script(fault) => script_message(fault),
+        Refusal::TooManyForPeak => Message::Plain("too many groups for an unknown peak"),
     }
 }
 
@@ -114,7 +140,7 @@ pub(crate) fn message_of(answer: &Answer) -> Option<Message>
         (λ message. error_line answer.now ≡ Some (line_of (message_text message))) }
 {
     match *answer {
-        Answer::Done | Answer::Fails(_) => None,
+        Answer::Done | Answer::Fails(_) | Answer::FailsPeak(_) => None,
         Answer::Words(fault) => Some(word_message(fault)),
         Answer::Refused(refusal) => Some(refusal_message(refusal)),
         Answer::ReadFault => Some(Message::Plain("read fault")),

@@ -10,7 +10,7 @@ use ofit_study::Study;
 use std::alloc::{AllocError, Global};
 
 /// The pieces in one text.
-fn joined(alloc: Global, pieces: &[&[u8]]) -> Result<Vec<u8>, AllocError>
+pub(crate) fn joined(alloc: Global, pieces: &[&[u8]]) -> Result<Vec<u8>, AllocError>
     ensures { IfOk result (λ text. text.items ≡ flat_map (λ p. p.now) pieces.now) }
 {
     let mut text = Vec::new(alloc);
@@ -21,7 +21,7 @@ fn joined(alloc: Global, pieces: &[&[u8]]) -> Result<Vec<u8>, AllocError>
 }
 
 /// The line that tells of a group.
-fn group_line<'a>(
+pub(crate) fn group_line<'a>(
     alloc: Global,
     study: &'a Study,
     fault: &'a str,

@@ -1,10 +1,10 @@
 -- How great the spans of groups are at fractions within their limits, by the factors of their loss.
-use Rattle.std.proofs.Common.{◌≡◌, ℕ, zero, suc, ◌+◌, ◌*◌, ◌<◌, ◌≤◌, ◌^◌, List, [], ◌∷◌, length, sym, ap, subst, arith, Bool, true, false, cond, mul-le-mul_left}
+use Rattle.std.proofs.Common.{◌≡◌, ℕ, zero, suc, ◌*◌, ◌<◌, ◌≤◌, ◌^◌, List, [], ◌∷◌, length, sym, ap, subst, arith, Bool, true, false, cond, mul-le-mul_left}
 use Rattle.std.proofs.lemmas.Int.{ints, unsigned_abs-mul}
 use Rattle.std.proofs.lemmas.Nat.{mul-le}
 use Rattle.std.proofs.lemmas.List.Elements.{All-head, All-tail}
 use Rattle.std.proofs.lemmas.List.Sums.{sum_by-cons, sum_by-append}
-use Rattle.std.specs.Prelude.{ℤ, pos, negsuc, ◌+ℤ◌, ◌-ℤ◌, ◌*ℤ◌, nat_eq, unsigned_abs, All, slice_get, unwrap_or}
+use Rattle.std.specs.Prelude.{ℤ, pos, negsuc, ◌*ℤ◌, nat_eq, unsigned_abs, All, slice_get, unwrap_or}
 use Rattle.ofit_num.specs.declared.row.Row.{Row}
 use Rattle.ofit_num.specs.Fraction.{Fraction}
 use Rattle.ofit_num.specs.Limits.{IsRowWithinLimits, total_weight, all_rows}
@@ -13,6 +13,7 @@ use Rattle.ofit_num.specs.Meaning.{Meaning}
 use Rattle.ofit_num.specs.Problem.{Bounds}
 use Rattle.ofit_num.specs.Reduced.{InLimits}
 use Rattle.ofit_num.specs.Span.{is_at}
+use Rattle.ofit_num.proofs.Order.{size_add, size_sub}
 use Rattle.ofit_cut.specs.declared.span.Span.{Span}
 use Rattle.ofit_cut.specs.Span.{span_at, span_size, total_span, end_or_zero}
 use Rattle.ofit_study.specs.declared.loss.LossKind.{LossKind}
@@ -20,15 +21,9 @@ use Rattle.ofit_study.specs.Loss.{IsListed, meaning_of}
 use Rattle.ofit_study.proofs.LossFactors.{of_table}
 use Rattle.ofit_cert.specs.OpenSpans.{open_end, open_span}
 
-added : (a b : ℤ) → unsigned_abs (a +ℤ b) ≤ unsigned_abs a + unsigned_abs b
-added a b = omega (arith, ints)
-
-difference : (a b : ℤ) → unsigned_abs (a -ℤ b) ≤ unsigned_abs a + unsigned_abs b
-difference a b = omega (arith, ints)
-
 residual_size : (r : Row) (c : Fraction) → IsRowWithinLimits r → InLimits c → unsigned_abs (residual r c.num c.den) ≤ 2 * 10 ^ 21
 residual_size r c h l =
-    omega (arith, difference (pos c.den *ℤ r.value) c.num, unsigned_abs-mul (pos c.den) r.value, mul-le c.den (unsigned_abs r.value) (10 ^ 12) (10 ^ 9) l.den h.value, l.num)
+    omega (arith, size_sub (pos c.den *ℤ r.value) c.num, unsigned_abs-mul (pos c.den) r.value, mul-le c.den (unsigned_abs r.value) (10 ^ 12) (10 ^ 9) l.den h.value, l.num)
 
 either_size : (b : Bool) (x y : ℤ) (n : ℕ) → unsigned_abs x ≤ n → unsigned_abs y ≤ n → unsigned_abs (cond b x y) ≤ n
 either_size true x y n h k = h
@@ -42,7 +37,7 @@ by_weights m f (r ∷ rows) each h = omega (
   ap (λ (n : ℕ). m * n) (sum_by-cons (λ (x : Row). x.weight) r rows),
   each r (All-head IsRowWithinLimits r rows h),
   by_weights m f rows each (All-tail IsRowWithinLimits r rows h),
-  added (f r) (int_row_sum f rows),
+  size_add (f r) (int_row_sum f rows),
 )
 
 -- factors of at most 100

@@ -1,3 +1,4 @@
 pub mod Tight
 pub mod OpenSpans
 pub mod TightFlows
+pub mod FitSheet

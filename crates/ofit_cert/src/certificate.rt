@@ -1,4 +1,5 @@
 ghost use Rattle.std.specs.Prelude.{◌≡◌, ◌≤◌, Some, IfOk, IsSome, length, vec_len, All};
+ghost use Rattle.ofit_num.specs.declared.limits.TheConstants.{MOST_GROUPS, MOST_PAIRS};
 ghost use Rattle.ofit_num.specs.Fit.{BestValues};
 ghost use Rattle.ofit_num.specs.Sheet.{FitsCount, sheet_values};
 ghost use Rattle.ofit_num.specs.Verdict.{Passes};
@@ -59,8 +60,8 @@ fn balanced_amounts(
 /// The sheet of these entries and flows, with the size of the study's rows.
 fn sheet_of(study: &Study, entries: Vec<(u32, Frac)>, flows: Vec<(u32, u32, i128)>) -> Sheet
     requires parts { ArePartsOfSheet None entries.items flows.items }
-    requires few_entries { vec_len entries ≤ 2000 }
-    requires few_flows { vec_len flows ≤ 20000 }
+    requires few_entries { vec_len entries ≤ MOST_GROUPS }
+    requires few_flows { vec_len flows ≤ MOST_PAIRS }
     ensures { result ≡ sheet_of study.now.settings (Some (record { rows = length study.now.rows; weight = total_weight study.now.rows })) entries.items flows.items }
 {
     let size = Size {

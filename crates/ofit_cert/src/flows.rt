@@ -1,4 +1,5 @@
 ghost use Rattle.std.specs.Prelude.{◌≡◌, ◌≤◌, IfOk, length};
+ghost use Rattle.ofit_num.specs.declared.limits.TheConstants.{MOST_PAIRS};
 ghost use Rattle.ofit_cert.specs.TightFlows.{flows_along, is_above_zero};
 
 use ofit_cut::Amounts;
@@ -18,7 +19,7 @@ pub(crate) fn flows_of(
     amounts: &Amounts,
 ) -> Result<Vec<(u32, u32, i128)>, AllocError>
     requires counted { length amounts.now ≡ length pairs.now }
-    requires few { length pairs.now ≤ 20000 }
+    requires few { length pairs.now ≤ MOST_PAIRS }
     ensures { IfOk result (λ flows. flows.items ≡ flows_along pairs.now amounts.now) }
 {
     let mut flows = Vec::new(alloc);

@@ -16,5 +16,5 @@ mod verdict;
 
 pub use check::verdict_sheet;
 pub use laws::passing_is_best;
-pub use peak::{PeakVerdict, verdict_unimodal};
+pub use peak::{PeakVerdict, cost_of_side, verdict_unimodal};
 pub use verdict::Verdict;

@@ -9,4 +9,5 @@ mod steps;
 mod verdict;
 
 pub use check::verdict_unimodal;
+pub use cost::cost_of_side;
 pub use verdict::PeakVerdict;

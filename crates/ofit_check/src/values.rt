@@ -1,4 +1,5 @@
-ghost use Rattle.std.specs.Prelude.{◌≡◌, ◌↔◌, ◌<◌, ◌≤◌, ◌^◌, pos, ◌*ℤ◌, ◌≤ℤ◌, unsigned_abs, IsTrue, IfSome, length};
+ghost use Rattle.std.specs.Prelude.{◌≡◌, ◌↔◌, ◌<◌, ◌≤◌, pos, ◌*ℤ◌, ◌≤ℤ◌, unsigned_abs, IsTrue, IfSome, length};
+ghost use Rattle.ofit_num.specs.declared.limits.TheConstants.{MOST_UNITS};
 ghost use Rattle.ofit_num.specs.Sheet.{FitsCount, sheet_value};
 ghost use Rattle.ofit_num.specs.Verdict.{HasValue, RisesAlong, IsInBounds};
 ghost use Rattle.ofit_sheet.specs.Kept.{IsFractionInLimits};
@@ -68,7 +69,7 @@ pub(crate) fn first_disobedient(study: &Study, sheet: &Sheet) -> Option<u32>
 
 /// A bound times the denominator of a value.
 fn bound_over(bound: i64, value: &Frac) -> i128
-    requires bound { unsigned_abs bound ≤ 10 ^ 9 }
+    requires bound { unsigned_abs bound ≤ MOST_UNITS }
     ensures { result ≡ bound *ℤ pos value.now.den }
 {
     i128::from(bound) * value.den()

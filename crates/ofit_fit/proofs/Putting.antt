@@ -1,10 +1,11 @@
 -- Lists made or changed one element at a time.
-use Rattle.std.proofs.Common.{◌≡◌, ◌≢◌, ℕ, zero, suc, ◌+◌, ◌<◌, ◌≤◌, refl, sym, ap, subst, ◌∙◌, arith, inl, inr, List, [], ◌∷◌, ◌++◌, length, get_or, set, slice_index, take, map}
+use Rattle.std.proofs.Common.{◌≡◌, ℕ, ◌+◌, ◌<◌, ◌≤◌, refl, sym, ap, subst, ◌∙◌, arith, inl, inr, List, [], ◌∷◌, ◌++◌, length, get_or, set, slice_index, take, map}
 use Rattle.std.proofs.lemmas.Bool.{cases_order}
 use Rattle.std.proofs.lemmas.List.{take_more, take_all, map-append, get_or-take, get_or_default, length-take, length-set}
 use Rattle.std.specs.Prelude.{slice_get, Some}
 use Rattle.std.specs.List.{Contains}
 use Rattle.ofit_num.specs.Fraction.{Fraction}
+use Rattle.ofit_num.proofs.Elements.{at_set, other_set}
 use Rattle.ofit_fit.specs.Put.{ArePut}
 use Rattle.ofit_fit.proofs.Linking.{take_from, take_to}
 use Rattle.ofit_fit.proofs.Places.{IsDistinct}
@@ -16,18 +17,6 @@ mapped_more {Y} f xs i ys after y l same is e =
 
 pub mapped_all : {Y : Type 0} (f : ℕ → Y) (xs : List ℕ) (i : ℕ) (ys : List Y) → length xs ≤ i → ys ≡ map f (take i xs) → ys ≡ map f xs
 mapped_all f xs i ys l e = e ∙ ap (map f) (take_all i xs l)
-
-pub get_set_same : {X : Type 0} (xs : List X) (p : ℕ) (v : X) → p < length xs → slice_get (set xs p v) p ≡ Some v
-get_set_same [] p v l = absurd (omega arith)
-get_set_same (x ∷ xs) zero v l = refl
-get_set_same (x ∷ xs) (suc p) v l = get_set_same xs p v (omega arith)
-
-pub get_set_other : {X : Type 0} (xs : List X) (p q : ℕ) (v : X) → q ≢ p → slice_get (set xs p v) q ≡ slice_get xs q
-get_set_other [] p q v d = refl
-get_set_other (x ∷ xs) zero zero v d = absurd (d refl)
-get_set_other (x ∷ xs) zero (suc q) v d = refl
-get_set_other (x ∷ xs) (suc p) zero v d = refl
-get_set_other (x ∷ xs) (suc p) (suc q) v d = get_set_other xs p q v (λ e. d (ap suc e))
 
 pub put_none : (places : List ℕ) (values before : List Fraction) → ArePut (take 0 places) values before before
 put_none places values before = record {
@@ -42,14 +31,14 @@ put_more places values before after i value distinct l m at h = record {
   count = length-set after (slice_index places i) value ∙ h.count;
   put = λ j b. put j (omega (arith, b, length-take (i + 1) places)) (omega (arith, b, length-take (i + 1) places)) (get_or-take (i + 1) places j 0 (omega (arith, b, length-take (i + 1) places)));
   others = λ g none.
-      get_set_other after (slice_index places i) g value (λ e. none (take_to places (i + 1) g i (omega arith) l (get_or_default places i g 0 l ∙ sym e)))
+      other_set after (slice_index places i) g value (λ e. none (take_to places (i + 1) g i (omega arith) l (get_or_default places i g 0 l ∙ sym e)))
       ∙ h.others g (λ c. none (grows g c));
 } where
   put : (j : ℕ) → j < i + 1 → j < length places → slice_index (take (i + 1) places) j ≡ slice_index places j → slice_get (set after (slice_index places i) value) (slice_index (take (i + 1) places) j) ≡ slice_get values j
   put j b c e = ap (slice_get (set after (slice_index places i) value)) e ∙ elim (cases_order j i) [
-    | inl same ↦ ap (λ (k : ℕ). slice_get (set after (slice_index places i) value) (slice_index places k)) same ∙ get_set_same after (slice_index places i) value (omega (arith, h.count, m)) ∙ sym at ∙ ap (slice_get values) (sym same)
+    | inl same ↦ ap (λ (k : ℕ). slice_get (set after (slice_index places i) value) (slice_index places k)) same ∙ at_set after (slice_index places i) value (omega (arith, h.count, m)) ∙ sym at ∙ ap (slice_get values) (sym same)
     | inr o ↦ elim o [
-      | inl x ↦ get_set_other after (slice_index places i) (slice_index places j) value (λ s. absurd (omega (arith, x, distinct j i c l s)))
+      | inl x ↦ other_set after (slice_index places i) (slice_index places j) value (λ s. absurd (omega (arith, x, distinct j i c l s)))
           ∙ ap (slice_get after) (sym (get_or-take i places j 0 x)) ∙ h.put j (omega (arith, x, c, length-take i places))
       | inr x ↦ absurd (omega (arith, b, x))
     ]

@@ -20,8 +20,8 @@ use Rattle.ofit_order.specs.Relation.{Relation, ComesBefore}
 use Rattle.ofit_order.specs.Connection.{LeadsUp, Joins}
 use Rattle.ofit_order.specs.Component.{HasComponent, IsComponentOf, AreMembers}
 use Rattle.ofit_order.proofs.Walks.{IsReached-refl}
-use Rattle.ofit_order.proofs.Increasing.{increasing_same}
 use Rattle.ofit_order.proofs.Forming.{member_inside}
+pub use Rattle.ofit_order.proofs.Shaping.{AreMembers-same as same_members}
 use Rattle.ofit_loss.specs.Laws.{HasLossLaws}
 use Rattle.ofit_loss.specs.Rows.{IsPlain}
 use Rattle.ofit_loss.proofs.Plain.{some_plain}
@@ -30,6 +30,7 @@ use Rattle.ofit_study.specs.Study.{Study, IsValid, names_of, groups_of, places_o
 use Rattle.ofit_study.proofs.Places.{group_count, pair_count}
 use Rattle.ofit_study.proofs.Stating.{groups_filled}
 use Rattle.ofit_span.proofs.Fittable.{all_plain, all_fittable}
+use Rattle.ofit_fit.specs.Links.{AreWholeMembers}
 use Rattle.ofit_fit.specs.Part.{part_of, IsOrderOf}
 use Rattle.ofit_fit.specs.Piece.{IsFittable, ArePlaces}
 use Rattle.ofit_fit.proofs.Closed.{IsClosed, distinct_from_increasing}
@@ -45,6 +46,9 @@ module _ (s : Study) (order : Relation) (fit : IsFittable s order) where
     up = λ a b h c. (are.closed a b ((fit.of.pairs (a, b)).1 h)).0 c;
     down = λ a b h c. (are.closed a b ((fit.of.pairs (a, b)).1 h)).1 c;
   }
+
+  pub whole_members : (members : List ℕ) → ArePlaces s order members → AreWholeMembers order.pairs members
+  whole_members members are = record { in_order = fit.of.in_order; rising = are.rising; few = are.few; closed = are.closed }
 
 -- each group of rows with numbers of observations has one
 plain_groups : (groups : List (List Row)) → All (λ rows. 0 < length rows) groups → All IsPlain (all_rows groups) → All (λ rows. Any IsPlain rows) groups
@@ -114,10 +118,6 @@ members_places s order valid of component members has are closed =
 
     first : Contains members (slice_index has.1.0 component)
     first = (are.exact (slice_index has.1.0 component)).1 lies
-
--- a component has one list of members
-pub same_members : (order : Relation) (component : ℕ) (xs ys : List ℕ) → AreMembers order component xs → AreMembers order component ys → xs ≡ ys
-same_members order component xs ys x y = increasing_same xs ys x.rising y.rising (λ p h. (y.exact p).1 ((x.exact p).0 h)) (λ p h. (x.exact p).1 ((y.exact p).0 h))
 
 -- what holds for the component's list of members holds for each such list
 pub for_members : {E : Type 0} (r : Result (Vec Frac Global) E) (m : Meaning) (s : Problem) (order : Relation) (component : ℕ) (members : List ℕ) → AreMembers order component members → IfOk r (λ values. LeastBestValues m (part_of s members) values.items)

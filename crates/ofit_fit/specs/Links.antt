@@ -1,6 +1,16 @@
 -- For each member of a component the position of the member that a pair leads to.
-use Rattle.std.specs.Prelude.{◌≡◌, ℕ, ◌+◌, ◌<◌, ◌≤◌, ◌⊎◌, List, [], ◌∷◌, length, slice_index, slice_index_or, Option, Some, None, MatchOption, IfSome}
+use Rattle.std.specs.Prelude.{◌≡◌, ℕ, ◌+◌, ◌<◌, ◌≤◌, ◌^◌, ◌⊎◌, ◌↔◌, List, [], ◌∷◌, length, slice_index, slice_index_or, Option, Some, None, MatchOption, IfSome}
 use Rattle.std.specs.List.{Contains}
+use Rattle.std.specs.List.Sorted.{IsStrictlyIncreasing}
+use Rattle.ofit_order.specs.Relation.{AreInOrder}
+use Rattle.ofit_order.specs.Connection.{LeadsUp}
+
+-- members in rising order, with each place that one of the pairs joins with one of them
+pub record AreWholeMembers (pairs : List (ℕ × ℕ)) (members : List ℕ) : Type 0 where
+  pub in_order : AreInOrder pairs
+  pub rising : IsStrictlyIncreasing members
+  pub few : length members < 2 ^ 32
+  pub closed : (a b : ℕ) → LeadsUp pairs a b → Contains members a ↔ Contains members b
 
 -- a step from the place leads to the member at the link's position, or none leads on
 abbrev pub IsLink : (ℕ → ℕ → Type 0) → List ℕ → ℕ → Option ℕ → Type 0

@@ -1,8 +1,9 @@
 -- The part of a problem that some of its places make up, as the members of a component do.
-use Rattle.std.specs.Prelude.{◌≡◌, ◌==◌, ℕ, ◌↔◌, List, length, map, slice_index, slice_get, unwrap_or, pos}
+use Rattle.std.specs.Prelude.{◌≡◌, ◌==◌, ℕ, ◌↔◌, List, length, map, slice_index}
 use Rattle.std.specs.List.{Contains, position_or_len}
 use Rattle.ofit_num.specs.Problem.{Problem}
 use Rattle.ofit_num.specs.Fraction.{Fraction}
+pub use Rattle.ofit_num.specs.Tight.{value_at}
 use Rattle.ofit_order.specs.Relation.{Relation, AreInOrder}
 use Rattle.ofit_order.specs.Form.{pairs_among}
 
@@ -22,10 +23,6 @@ part_of s members = record {
   pairs = pairs_by_position s.pairs members;
   bounds = λ i. s.bounds (slice_index members i);
 }
-
--- the value of a place, 0 where there is none
-abbrev pub value_at : List Fraction → ℕ → Fraction
-value_at values g = unwrap_or (slice_get values g) (record { num = pos 0; den = 1 })
 
 -- the values of the members, in the members' order
 abbrev pub values_at : List Fraction → List ℕ → List Fraction

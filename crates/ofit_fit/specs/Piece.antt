@@ -6,7 +6,7 @@ use Rattle.ofit_num.specs.Limits.{all_rows}
 use Rattle.ofit_order.specs.Relation.{Relation}
 use Rattle.ofit_order.specs.Connection.{LeadsUp}
 use Rattle.ofit_loss.specs.Rows.{AreFittable, IsPlain}
-use Rattle.ofit_study.specs.Study.{Study, groups_of, problem_stated}
+use Rattle.ofit_study.specs.Study.{Study, groups_of, most_groups, most_pairs, problem_stated}
 use Rattle.ofit_fit.specs.Part.{IsOrderOf}
 
 -- a study whose groups have observations that a loss takes together, with its order
@@ -15,8 +15,8 @@ pub record IsFittable (s : Study) (order : Relation) : Type 0 where
   pub filled : All (λ rows. 0 < length rows) (groups_of s)
   pub plain : All (λ rows. Any IsPlain rows) (groups_of s)
   pub fittable : AreFittable (all_rows (groups_of s))
-  pub few_groups : length (groups_of s) ≤ 2000
-  pub few_pairs : length order.pairs ≤ 20000
+  pub few_groups : length (groups_of s) ≤ most_groups
+  pub few_pairs : length order.pairs ≤ most_pairs
 
 -- some of the study's places, with each place that a pair joins with one of them
 pub record ArePlaces (s : Study) (order : Relation) (members : List ℕ) : Type 0 where

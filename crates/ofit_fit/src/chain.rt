@@ -1,18 +1,15 @@
-ghost use Rattle.std.specs.Prelude.{◌≡◌, ◌<◌, ◌≤◌, ◌^◌, ◌↔◌, ℕ, List, IfOk, length, map, slice_index, vec_len, Option, Some, None};
-ghost use Rattle.std.specs.List.{All, Contains};
-ghost use Rattle.std.specs.List.Sorted.{IsStrictlyIncreasing};
+ghost use Rattle.std.specs.Prelude.{◌≡◌, ◌<◌, ◌≤◌, ◌^◌, ℕ, List, IfOk, length, map, slice_index, vec_len, Option, Some, None};
+ghost use Rattle.std.specs.List.{All};
 ghost use Rattle.ofit_num.specs.Limits.{all_rows};
 ghost use Rattle.ofit_num.specs.Clipped.{without_bounds};
 ghost use Rattle.ofit_num.specs.Fit.{LeastBestValues};
-ghost use Rattle.ofit_order.specs.Relation.{AreInOrder};
-ghost use Rattle.ofit_order.specs.Connection.{LeadsUp};
 ghost use Rattle.ofit_loss.specs.Rows.{AreFittable};
 ghost use Rattle.ofit_chain.specs.Chain.{chain_problem};
 ghost use Rattle.ofit_order.specs.Shape.{IsChainOf};
 ghost use Rattle.ofit_study.specs.Study.{groups_of, problem_stated};
 ghost use Rattle.ofit_fit.specs.Part.{part_of, position_among};
 ghost use Rattle.ofit_fit.specs.Piece.{IsFittable, ArePlaces};
-ghost use Rattle.ofit_fit.specs.Links.{IsLinkWithin, IsPathFrom, link_at};
+ghost use Rattle.ofit_fit.specs.Links.{AreWholeMembers, IsLinkWithin, IsPathFrom, link_at};
 
 use crate::links::{links_down, links_up};
 use crate::members::{groups_at, members_at};
@@ -60,11 +57,8 @@ fn follow(alloc: Global, links: &[Option<u32>], start: u32) -> Result<Vec<u32>, 
 
 /// The positions of a chain's members, from the lowest to the highest.
 fn path_of(alloc: Global, pairs: &[(u32, u32)], members: &[u32]) -> Result<Vec<u32>, AllocError>
-    requires in_order { AreInOrder pairs.now }
-    requires rising { IsStrictlyIncreasing members.now }
-    requires few { length members.now < 2 ^ 32 }
+    requires whole { AreWholeMembers pairs.now members.now }
     requires some { 0 < length members.now }
-    requires closed { (a b : ℕ) → LeadsUp pairs.now a b → Contains members.now a ↔ Contains members.now b }
     requires chain { (list : List ℕ) × IsChainOf pairs.now members.now list }
     ensures { IfOk result (λ path. (list : List ℕ) → IsChainOf pairs.now members.now list → path.items ≡ map (position_among members.now) list) }
 {

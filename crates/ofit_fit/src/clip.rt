@@ -1,4 +1,5 @@
-ghost use Rattle.std.specs.Prelude.{◌≡◌, ◌≤◌, ◌^◌, ◌*ℤ◌, pos, unsigned_abs, length, IfOk};
+ghost use Rattle.std.specs.Prelude.{◌≡◌, ◌≤◌, ◌*ℤ◌, pos, unsigned_abs, length, IfOk};
+ghost use Rattle.ofit_num.specs.declared.limits.TheConstants.{MOST_UNITS};
 ghost use Rattle.ofit_num.specs.Clipped.{whole, clip_low, clip_high, AreClipped};
 ghost use Rattle.ofit_study.specs.Settings.{IsBoundInLimits};
 ghost use Rattle.ofit_study.specs.Study.{problem_stated};
@@ -10,7 +11,7 @@ use std::alloc::{AllocError, Global};
 
 /// A bound as a value.
 fn value_of(bound: i64) -> Frac
-    requires { unsigned_abs bound ≤ 10 ^ 9 }
+    requires { unsigned_abs bound ≤ MOST_UNITS }
     ensures { result ≡ whole bound }
 {
     Frac::make(i128::from(bound), 1).unwrap()
@@ -18,7 +19,7 @@ fn value_of(bound: i64) -> Frac
 
 /// A bound times the denominator of a value.
 fn bound_over(bound: i64, value: &Frac) -> i128
-    requires { unsigned_abs bound ≤ 10 ^ 9 }
+    requires { unsigned_abs bound ≤ MOST_UNITS }
     ensures { result ≡ bound *ℤ pos value.now.den }
 {
     i128::from(bound) * value.den()

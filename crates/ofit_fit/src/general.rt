@@ -1,14 +1,12 @@
-ghost use Rattle.std.specs.Prelude.{◌≡◌, ◌+◌, ◌-◌, ◌<◌, ◌≤◌, ◌^◌, ◌↔◌, ℕ, IfOk, OnOk, length};
+ghost use Rattle.std.specs.Prelude.{◌≡◌, ◌+◌, ◌-◌, ◌<◌, ◌≤◌, ◌^◌, ℕ, IfOk, OnOk, length};
 ghost use Rattle.std.specs.List.{Contains};
 ghost use Rattle.std.specs.List.Sorted.{IsStrictlyIncreasing};
 ghost use Rattle.ofit_num.specs.Clipped.{without_bounds};
 ghost use Rattle.ofit_num.specs.Fit.{LeastBestValues};
-ghost use Rattle.ofit_order.specs.Relation.{AreInOrder};
-ghost use Rattle.ofit_order.specs.Connection.{LeadsUp};
 ghost use Rattle.ofit_study.specs.Study.{problem_stated};
 ghost use Rattle.ofit_fit.specs.Part.{part_of};
 ghost use Rattle.ofit_fit.specs.Piece.{IsFittable, ArePlaces};
-ghost use Rattle.ofit_fit.specs.Links.{AreAdded, ArePairsBetween};
+ghost use Rattle.ofit_fit.specs.Links.{AreAdded, ArePairsBetween, AreWholeMembers};
 
 use crate::links::{pairs_above, position_of};
 use crate::members::groups_at;
@@ -44,10 +42,7 @@ fn pairs_between(
     pairs: &[(u32, u32)],
     members: &[u32],
 ) -> Result<Vec<(u32, u32)>, AllocError>
-    requires in_order { AreInOrder pairs.now }
-    requires rising { IsStrictlyIncreasing members.now }
-    requires few { length members.now < 2 ^ 32 }
-    requires closed { (a b : ℕ) → LeadsUp pairs.now a b → Contains members.now a ↔ Contains members.now b }
+    requires { AreWholeMembers pairs.now members.now }
     ensures { IfOk result (λ found. ArePairsBetween pairs.now members.now found.items) }
 {
     let mut found = Vec::new(alloc);

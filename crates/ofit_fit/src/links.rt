@@ -4,7 +4,7 @@ ghost use Rattle.std.specs.List.Sorted.{IsStrictlyIncreasing};
 ghost use Rattle.ofit_order.specs.Relation.{AreInOrder};
 ghost use Rattle.ofit_order.specs.Connection.{LeadsUp};
 ghost use Rattle.ofit_order.specs.Shape.{LeadsDown};
-ghost use Rattle.ofit_fit.specs.Links.{IsLink, IsRun, AreLinks, AreLinkedBack};
+ghost use Rattle.ofit_fit.specs.Links.{IsLink, IsRun, AreLinks, AreLinkedBack, AreWholeMembers};
 
 use std::alloc::{AllocError, Global};
 
@@ -76,10 +76,7 @@ pub(crate) fn links_up(
     pairs: &[(u32, u32)],
     members: &[u32],
 ) -> Result<Vec<Option<u32>>, AllocError>
-    requires in_order { AreInOrder pairs.now }
-    requires rising { IsStrictlyIncreasing members.now }
-    requires few { length members.now < 2 ^ 32 }
-    requires closed { (a b : ℕ) → LeadsUp pairs.now a b → Contains members.now a ↔ Contains members.now b }
+    requires { AreWholeMembers pairs.now members.now }
     ensures { IfOk result (λ links. AreLinks (LeadsUp pairs.now) members.now links.items) }
 {
     let mut links = Vec::new(alloc);
@@ -109,10 +106,7 @@ pub(crate) fn links_down(
     pairs: &[(u32, u32)],
     members: &[u32],
 ) -> Result<Vec<Option<u32>>, AllocError>
-    requires in_order { AreInOrder pairs.now }
-    requires rising { IsStrictlyIncreasing members.now }
-    requires few { length members.now < 2 ^ 32 }
-    requires closed { (a b : ℕ) → LeadsUp pairs.now a b → Contains members.now a ↔ Contains members.now b }
+    requires { AreWholeMembers pairs.now members.now }
     ensures { IfOk result (λ links. AreLinks (LeadsDown pairs.now) members.now links.items) }
 {
     let mut links = vec![in alloc; None; members.len()]?;

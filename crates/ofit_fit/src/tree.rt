@@ -1,15 +1,11 @@
-ghost use Rattle.std.specs.Prelude.{◌<◌, ◌^◌, ◌↔◌, ℕ, List, IfOk, length};
-ghost use Rattle.std.specs.List.{Contains};
-ghost use Rattle.std.specs.List.Sorted.{IsStrictlyIncreasing};
+ghost use Rattle.std.specs.Prelude.{ℕ, IfOk};
 ghost use Rattle.ofit_num.specs.Clipped.{without_bounds};
 ghost use Rattle.ofit_num.specs.Fit.{LeastBestValues};
-ghost use Rattle.ofit_order.specs.Relation.{AreInOrder};
-ghost use Rattle.ofit_order.specs.Connection.{LeadsUp};
 ghost use Rattle.ofit_order.specs.Shape.{RunsTo};
 ghost use Rattle.ofit_study.specs.Study.{problem_stated};
 ghost use Rattle.ofit_fit.specs.Part.{part_of};
 ghost use Rattle.ofit_fit.specs.Piece.{IsFittable, ArePlaces};
-ghost use Rattle.ofit_fit.specs.Links.{AreLinks};
+ghost use Rattle.ofit_fit.specs.Links.{AreLinks, AreWholeMembers};
 ghost use Rattle.ofit_fit.specs.Direct.{Leads};
 
 use crate::links::{links_down, links_up};
@@ -28,10 +24,7 @@ fn parents_of(
     members: &[u32],
     direction: Direction,
 ) -> Result<Vec<Option<u32>>, AllocError>
-    requires in_order { AreInOrder pairs.now }
-    requires rising { IsStrictlyIncreasing members.now }
-    requires few { length members.now < 2 ^ 32 }
-    requires closed { (a b : ℕ) → LeadsUp pairs.now a b → Contains members.now a ↔ Contains members.now b }
+    requires { AreWholeMembers pairs.now members.now }
     ensures { IfOk result (λ parents. AreLinks (Leads direction pairs.now) members.now parents.items) }
 {
     match direction {

@@ -17,10 +17,14 @@ use Rattle.ofit_table.specs.PairsRead.{PairsRead}
 use Rattle.ofit_table.specs.PatternRead.{PatternRead}
 use Rattle.ofit_sheet.specs.declared.fault.SheetFault.TheVariants as sheet_fault
 use Rattle.ofit_sheet.specs.SheetRead.{SheetRead}
+use Rattle.ofit_script.specs.declared.fault.ScriptFault.{ScriptFault}
+use Rattle.ofit_script.specs.declared.fault.ScriptFault.TheVariants as script_fault
+use Rattle.ofit_script.specs.declared.line.Line.{Line}
+use Rattle.ofit_script.specs.ScriptRead.{ScriptRead}
 use Rattle.ofit_input.specs.declared.refusal.Which.TheVariants as which
 use Rattle.ofit_input.specs.declared.refusal.Refusal.{Refusal}
-use Rattle.ofit_input.specs.declared.refusal.Refusal.TheVariants.{Table, Pairs, Sheet}
-use Rattle.ofit_input.specs.Given.{TableGives, OrderGives, StudyGives, SheetGives}
+use Rattle.ofit_input.specs.declared.refusal.Refusal.TheVariants.{Table, Pairs, Sheet, Script}
+use Rattle.ofit_input.specs.Given.{TableGives, OrderGives, StudyGives, SheetGives, LinesGive}
 use Rattle.ofit_input.proofs.Results.{ok_same, ok_apart}
 use Rattle.ofit_input.proofs.OneFile.{IsOneWay, one_reading, one_from_file}
 
@@ -37,7 +41,7 @@ PatternsAreOne = (pattern : Pattern) (study : Study) → IsOneWay (PatternRead p
 abbrev pub SheetsAreOne : Type 0
 SheetsAreOne = (study : Study) (rows : List (List (List ℕ))) → IsOneWay (SheetRead (names_of study) rows) sheet_fault.Memory
 
-one_table : TablesAreOne → (h : Held) (name : List ℕ) (settings : Settings) (a b : Result Study Refusal) → TableGives (Some h) name settings a → TableGives (Some h) name settings b → a ≡ b
+pub one_table : TablesAreOne → (h : Held) (name : List ℕ) (settings : Settings) (a b : Result Study Refusal) → TableGives (Some h) name settings a → TableGives (Some h) name settings b → a ≡ b
 one_table one h name settings a b x y = one_from_file (λ bytes. DataRead bytes settings) Table data_fault.Memory (λ bytes. one bytes settings) h name which.Table a b x y
 
 one_order : OrdersAreOne → PatternsAreOne → (h : Held) (choice : OrderChoice) (study : Study) (a b : Result Study Refusal) → OrderGives (Some h) choice study a → OrderGives (Some h) choice study b → a ≡ b
@@ -75,3 +79,11 @@ one_study tables orders patterns h inputs a b x y = cases (studied h inputs a x)
 pub one_sheet : SheetsAreOne → (h : Held) (name : List ℕ) (study : Study) (a b : Result (num.Sheet Settings) Refusal) → SheetGives (Some h) name study a → SheetGives (Some h) name study b → a ≡ b
 one_sheet sheets h name study a b x y =
     one_from_file (λ bytes. SheetRead (names_of study) (records_of bytes)) Sheet sheet_fault.Memory (λ bytes. sheets study (records_of bytes)) h name which.Sheet a b x y
+
+-- scripts are read in one way
+abbrev pub ScriptsAreOne : Type 0
+ScriptsAreOne = (bytes : List ℕ) (settings : Settings) (a b : Result (List Line) ScriptFault) → ScriptRead bytes settings a → ScriptRead bytes settings b → a ≡ b
+
+pub one_script : ScriptsAreOne → (h : Held) (name : List ℕ) (settings : Settings) (a b : Result (List Line) Refusal) → LinesGive (Some h) name settings a → LinesGive (Some h) name settings b → a ≡ b
+one_script scripts h name settings a b x y =
+    one_from_file (λ bytes. ScriptRead bytes settings) Script script_fault.Memory (λ bytes r t f k n m. scripts bytes settings r t f k) h name which.Script a b x y

@@ -1,11 +1,20 @@
--- That a sheet fits its study.
-use Rattle.std.specs.Prelude.{⊤, length}
+-- That what a job works on fits together and is within the limits of its work.
+use Rattle.std.specs.Prelude.{◌≡◌, ⊤, ◌≤◌, ℕ, length}
 use Rattle.ofit_num.specs.Sheet.{FitsCount}
+use Rattle.ofit_sheet.specs.declared.peaked.limits.TheConstants.{MOST_PEAK_GROUPS}
+use Rattle.ofit_sheet.specs.Peaked.{IsShaped}
 use Rattle.ofit_study.specs.Study.{names_of}
+use Rattle.ofit_words.specs.declared.job.Job.TheVariants as job
+use Rattle.ofit_words.specs.Words.{IsJobInLimits}
+use Rattle.ofit_input.specs.PeakGiven.{peak_settings}
 use Rattle.ofit_input.specs.declared.ready.Ready.{Ready}
-use Rattle.ofit_input.specs.declared.ready.Ready.TheVariants.{Verify}
+use Rattle.ofit_input.specs.declared.ready.Ready.TheVariants.{Verify, Unimodal, VerifyUnimodal, Levels, Sample}
 
--- a sheet to be verified has places and ends among the study's groups
-abbrev pub SheetFits : Ready → Type 0
-SheetFits (Verify study sheet) = FitsCount (length (names_of study)) sheet
-SheetFits ready = ⊤
+-- A sheet to be verified has places and ends among the study's groups, a peaked one a side for each of them. The study of an unknown peak has the settings of one.
+abbrev pub IsFitting : Ready → Type 0
+IsFitting (Verify study sheet) = FitsCount (length (names_of study)) sheet
+IsFitting (Unimodal study) = (length (names_of study) ≤ MOST_PEAK_GROUPS) × ((places : ℕ) × (study.settings ≡ peak_settings places))
+IsFitting (VerifyUnimodal study peaked) = (length (names_of study) ≤ MOST_PEAK_GROUPS) × IsShaped (length (names_of study)) peaked
+IsFitting (Levels k) = (1 ≤ k) × (k ≤ 34)
+IsFitting (Sample made) = IsJobInLimits (job.Sample made)
+IsFitting ready = ⊤

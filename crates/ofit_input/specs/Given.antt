@@ -1,4 +1,4 @@
--- What the named files give: a table's study, the study with its order, a sheet; or the first refusal.
+-- What the named files give: a table's study, the study with its order, a sheet, the lines of a script; or the first refusal.
 use Rattle.std.specs.Prelude.{◌⊎◌, ℕ, List, Option, Result, Ok, Err}
 use Rattle.ofit_outside.specs.Folder.{Held}
 use Rattle.ofit_num.specs.Sheet as num
@@ -15,6 +15,9 @@ use Rattle.ofit_table.specs.PairsRead.{PairsRead}
 use Rattle.ofit_table.specs.PatternRead.{PatternRead}
 use Rattle.ofit_sheet.specs.declared.fault.SheetFault.TheVariants as sheet_fault
 use Rattle.ofit_sheet.specs.SheetRead.{SheetRead}
+use Rattle.ofit_script.specs.declared.fault.ScriptFault.TheVariants as script_fault
+use Rattle.ofit_script.specs.declared.line.Line.{Line}
+use Rattle.ofit_script.specs.ScriptRead.{ScriptRead}
 use Rattle.ofit_input.specs.declared.refusal.Which.TheVariants as which
 use Rattle.ofit_input.specs.declared.refusal.Refusal.{Refusal}
 use Rattle.ofit_input.specs.declared.refusal.Refusal.TheVariants as refusal
@@ -41,3 +44,7 @@ StudyGives held inputs (Err refusal) = TableGives held inputs.table inputs.setti
 -- the sheet of this name, for the study that names its groups
 abbrev pub SheetGives : Option Held → List ℕ → Study → Result (num.Sheet Settings) Refusal → Type 0
 SheetGives held name study = FileGives (λ bytes. SheetRead (names_of study) (records_of bytes)) refusal.Sheet sheet_fault.Memory held name which.Sheet
+
+-- the lines of the script of this name
+abbrev pub LinesGive : Option Held → List ℕ → Settings → Result (List Line) Refusal → Type 0
+LinesGive held name settings = FileGives (λ bytes. ScriptRead bytes settings) refusal.Script script_fault.Memory held name which.Script

@@ -1,5 +1,6 @@
 pub mod Files
 pub mod Given
+pub mod PeakGiven
 pub mod Ready
 pub mod Stops
 pub mod Fitting

@@ -10,7 +10,8 @@ ghost use Rattle.ofit_input.specs.declared.refusal.Refusal.{Refusal};
 ghost use Rattle.ofit_input.specs.Given.{StudyGives, SheetGives};
 ghost use Rattle.ofit_input.specs.Ready.{ReadyGives};
 
-use ofit_sheet::sheets_are_read_in_one_way;
+use ofit_script::scripts_are_read_in_one_way;
+use ofit_sheet::{peaked_sheets_are_read_in_one_way, sheets_are_read_in_one_way};
 use ofit_table::{
     orders_are_read_in_one_way, patterns_are_read_in_one_way, tables_are_read_in_one_way,
 };
@@ -26,4 +27,6 @@ pub fn inputs_are_given_in_one_way()
     orders_are_read_in_one_way();
     patterns_are_read_in_one_way();
     sheets_are_read_in_one_way();
+    peaked_sheets_are_read_in_one_way();
+    scripts_are_read_in_one_way();
 }

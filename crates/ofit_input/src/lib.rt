@@ -5,8 +5,11 @@
 mod fetch;
 mod laws;
 mod order;
+mod peak;
+mod peaked;
 mod ready;
 mod refusal;
+mod script;
 mod sheet;
 mod stop;
 mod study;

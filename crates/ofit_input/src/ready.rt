@@ -1,17 +1,20 @@
 ghost use Rattle.std.specs.Prelude.{◌≡◌, IfOk, IfErr, OnOk, Ok, Err};
 ghost use Rattle.ofit_words.specs.Words.{IsJobInLimits};
-ghost use Rattle.ofit_input.specs.Ready.{ReadyGives};
-ghost use Rattle.ofit_input.specs.Fitting.{SheetFits};
+ghost use Rattle.ofit_input.specs.Ready.{ReadyGives, NamesFile};
+ghost use Rattle.ofit_input.specs.Fitting.{IsFitting};
 ghost use Rattle.ofit_input.specs.Stops.{Stops};
 
-use crate::refusal::Refusal;
+use crate::peak::peak_study;
+use crate::peaked::peaked_from;
+use crate::script::script_from;
 use crate::sheet::sheet_from;
 use crate::stop::Stop;
 use crate::study::study_from;
 use ofit_outside::Folder;
-use ofit_sheet::Sheet;
+use ofit_script::Script;
+use ofit_sheet::{Peaked, Sheet};
 use ofit_study::Study;
-use ofit_words::Job;
+use ofit_words::{Job, SampleJob};
 use std::alloc::Global;
 
 /// What a job works on, once each file that it names is read.
@@ -23,21 +26,30 @@ pub enum Ready {
     Report(Study),
     /// Verify this sheet of this study.
     Verify(Study, Sheet),
+    /// Edit this study by this script.
+    Session(Study, Script),
+    /// Print the peaked sheet of the fit of this study, whose peak isn't known.
+    Unimodal(Study),
+    /// Verify this peaked sheet of this study.
+    VerifyUnimodal(Study, Peaked),
+    /// Print the level table of so many groups of equal weight.
+    Levels(u32),
+    /// Print the summary of the study that this makes.
+    Sample(SampleJob),
 }
 
 /// What the job works on. The files that it names are fetched and read in this order: the table, the
-/// order, the sheet.
+/// order, the sheet or the script.
 ///
 /// # Errors
 ///
-/// The first step that refuses, fails or wants memory. A job that isn't built yet is refused before
-/// any fetch.
+/// The first step that refuses, fails or wants memory.
 pub fn ready_from<F: Folder>(alloc: Global, folder: &mut F, job: &Job) -> Result<Ready, Stop>
     requires { IsJobInLimits job.now }
     ensures ready { IfOk result (λ ready. ReadyGives (F.held folder.old) job.now (Ok ready)) }
-    ensures fits { IfOk result SheetFits }
+    ensures fits { IfOk result IsFitting }
     ensures stops { IfErr result (λ stop. Stops (F.faults folder.old) (F.faults folder.new) (λ refusal. ReadyGives (F.held folder.old) job.now (Err refusal)) stop) }
-    ensures built { IfErr result (λ stop. stop ≡ Stop.ReadFault → ReadyGives (F.held folder.old) job.now (Err Refusal.NotBuilt) → ⊥) }
+    ensures named { IfErr result (λ stop. stop ≡ Stop.ReadFault → NamesFile job.now) }
     ensures stays { OnOk result (F.faults folder.new ≡ F.faults folder.old) }
     ensures held { F.held folder.new ≡ F.held folder.old }
 {
@@ -55,10 +67,21 @@ pub fn ready_from<F: Folder>(alloc: Global, folder: &mut F, job: &Job) -> Result
             let sheet = sheet_from(alloc, folder, sheet.as_str(), &study)?;
             Ok(Ready::Verify(study, sheet))
         }
-        Job::Session(_, _)
-        | Job::Unimodal(_, _)
-        | Job::VerifyUnimodal(_, _, _)
-        | Job::Levels(_)
-        | Job::Sample(_) => Err(Stop::Refused(Refusal::NotBuilt)),
+        Job::Session(inputs, script) => {
+            let study = study_from(alloc, folder, inputs)?;
+            let script = script_from(alloc, folder, script.as_str(), &inputs.settings)?;
+            Ok(Ready::Session(study, script))
+        }
+        Job::Unimodal(table, places) => {
+            let study = peak_study(alloc, folder, table.as_str(), *places)?;
+            Ok(Ready::Unimodal(study))
+        }
+        Job::VerifyUnimodal(table, sheet, places) => {
+            let study = peak_study(alloc, folder, table.as_str(), *places)?;
+            let peaked = peaked_from(alloc, folder, sheet.as_str(), &study)?;
+            Ok(Ready::VerifyUnimodal(study, peaked))
+        }
+        Job::Levels(k) => Ok(Ready::Levels(*k)),
+        Job::Sample(made) => Ok(Ready::Sample(*made)),
     }
 }

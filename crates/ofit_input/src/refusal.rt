@@ -1,3 +1,4 @@
+use ofit_script::ScriptFault;
 use ofit_sheet::SheetFault;
 use ofit_table::{DataFault, OrderFault};
 
@@ -10,6 +11,8 @@ pub enum Which {
     Pairs,
     /// The sheet.
     Sheet,
+    /// The script.
+    Script,
 }
 
 /// Why the inputs were refused.
@@ -25,6 +28,8 @@ pub enum Refusal {
     Pairs(OrderFault),
     /// The sheet can't be read.
     Sheet(SheetFault),
-    /// The words ask for something that this program can't do yet.
-    NotBuilt,
+    /// The script can't be read.
+    Script(ScriptFault),
+    /// There are more than 200 groups, which is too many to fit an unknown peak.
+    TooManyForPeak,
 }

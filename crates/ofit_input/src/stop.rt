@@ -1,7 +1,8 @@
 ghost use Rattle.std.specs.Prelude.{◌≡◌};
-ghost use Rattle.ofit_input.specs.Stops.{table_stop, order_stop, sheet_stop};
+ghost use Rattle.ofit_input.specs.Stops.{table_stop, order_stop, sheet_stop, script_stop};
 
 use crate::refusal::Refusal;
+use ofit_script::ScriptFault;
 use ofit_sheet::SheetFault;
 use ofit_table::{DataFault, OrderFault};
 
@@ -45,6 +46,17 @@ impl From<SheetFault> for Stop {
         match fault {
             SheetFault::Memory => Stop::Memory,
             fault => Stop::Refused(Refusal::Sheet(fault)),
+        }
+    }
+}
+
+impl From<ScriptFault> for Stop {
+    ghost from_gives = { λ fault stop. stop ≡ script_stop fault };
+
+    fn from(fault: ScriptFault) -> Self {
+        match fault {
+            ScriptFault::Memory => Stop::Memory,
+            fault => Stop::Refused(Refusal::Script(fault)),
         }
     }
 }

@@ -26,6 +26,6 @@ pub(crate) fn study_from<F: Folder>(
     let table = inputs.table.as_str();
     let before = table_study(alloc, folder, table, &inputs.settings)?;
     let study = ordered_study(alloc, folder, &inputs.order, &before)?;
-    let _valid = study.pair_count();
+    study.keeps_limits();
     Ok(study)
 }

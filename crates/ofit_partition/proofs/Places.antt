@@ -11,6 +11,7 @@ use Rattle.ofit_num.specs.Problem.{Problem}
 use Rattle.ofit_num.specs.Sets.{set_sum, IsWithin}
 use Rattle.ofit_num.proofs.Cuts.{union, set_sum-union}
 use Rattle.ofit_num.proofs.Blocks.{set_sum-equal}
+use Rattle.ofit_num.proofs.Layers.{set_sum-is}
 use Rattle.ofit_num.proofs.Sums.{int_sum, int_sum-at}
 use Rattle.ofit_cut.specs.Sets.{set_sum as node_sum, weight_at}
 use Rattle.ofit_partition.specs.Piece.{holds}
@@ -41,18 +42,14 @@ abbrev pub place_sum : (ℕ → ℤ) → List ℕ → ℤ
 place_sum f [] = pos 0
 place_sum f (p ∷ places) = f p +ℤ place_sum f places
 
-set_sum-terms : (a : ℕ → Bool) (f : ℕ → ℤ) (n : ℕ) → set_sum a f n ≡ int_sum (λ g. cond (a g) (f g) (pos 0)) n
-set_sum-terms a f zero = refl
-set_sum-terms a f (suc n) = ap (λ (z : ℤ). z +ℤ cond (a n) (f n) (pos 0)) (set_sum-terms a f n)
-
 lone_sum : (p : ℕ) (f : ℕ → ℤ) (n : ℕ) → p < n → set_sum (nat_eq p) f n ≡ f p
-lone_sum p f n l = set_sum-terms (nat_eq p) f n ∙ int_sum-at (λ g. cond (nat_eq p g) (f g) (pos 0)) n p l
+lone_sum p f n l = set_sum-is (nat_eq p) f n ∙ int_sum-at (λ g. cond (nat_eq p g) (f g) (pos 0)) n p l
     (λ g b away. ap (λ (x : Bool). cond x (f g) (pos 0)) (ne_eqb p g (λ e. away (sym e))))
     ∙ ap (λ (x : Bool). cond x (f p) (pos 0)) (eq-eqb p p refl)
 
 pub place_sum-holds : (f : ℕ → ℤ) (places : List ℕ) (n : ℕ) → AllPairs (λ x y. x < y) places → All (λ g. g < n) places → place_sum f places ≡ set_sum (holds places) f n
 unfolding union
-place_sum-holds f [] n rising below = sym (set_sum-terms (λ g. false) f n ∙ none n) where
+place_sum-holds f [] n rising below = sym (set_sum-is (λ g. false) f n ∙ none n) where
   none : (n : ℕ) → int_sum (λ g. pos 0) n ≡ pos 0
   none zero = refl
   none (suc n) = omega (arith, ints, none n)

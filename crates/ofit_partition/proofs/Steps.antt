@@ -8,6 +8,8 @@ use Rattle.ofit_num.specs.Meaning.{Meaning}
 use Rattle.ofit_num.specs.Fraction.{Fraction}
 use Rattle.ofit_num.specs.Law.{HasFallingSpans}
 use Rattle.ofit_num.specs.Level.{IsLevel, HasBase, IsCut, labelled}
+use Rattle.ofit_num.proofs.Cuts.{but_not, not_but}
+use Rattle.ofit_num.proofs.Elements.{slice_get-push}
 use Rattle.ofit_num.proofs.Levels.{has_label, is_label}
 use Rattle.ofit_num.proofs.Division.{same_test, relabelled, at_chosen, at_other, level_same, base_same, chosen_part, rest_part, other_part, cut_divided}
 use Rattle.ofit_partition.specs.declared.piece.Piece.{Piece}
@@ -21,10 +23,6 @@ at_front [] y x i e = cc
 at_front (z ∷ xs) y x zero e = e
 at_front (z ∷ xs) y x (suc i) e = at_front xs y x i e
 
-pub at_end : {X : Type 0} (xs : List X) (y : X) → slice_get (xs ++ y ∷ []) (length xs) ≡ Some y
-at_end [] y = refl
-at_end (z ∷ xs) y = at_end xs y
-
 pub front_or_end : {X : Type 0} (xs : List X) (y x : X) (i : ℕ) → slice_get (xs ++ y ∷ []) i ≡ Some x → (slice_get xs i ≡ Some x) ⊎ ((i ≡ length xs) × (y ≡ x))
 front_or_end [] y x zero e = inr (refl, cc)
 front_or_end [] y x (suc i) e = cc
@@ -36,14 +34,6 @@ none_some o v e f = cc
 
 minus : (a b : ℕ → Bool) → ℕ → Bool
 minus a b g = a g && not (b g)
-
-in_minus : (x y : Bool) → x ≡ true → y ≡ false → (x && not y) ≡ true
-in_minus x y e f = rw (e, f) refl
-
-from_minus : (x y : Bool) → (x && not y) ≡ true → (x ≡ true) × (y ≡ false)
-from_minus true true e = cc
-from_minus true false e = (refl, refl)
-from_minus false y e = cc
 
 module _ (m : Meaning) (s : Problem) (strict : Bool) (label : ℕ → ℕ) (top : ℕ) (values : List (Option Fraction)) where
   -- what is loose matters at the places alone
@@ -73,8 +63,8 @@ module _ (m : Meaning) (s : Problem) (strict : Bool) (label : ℕ → ℕ) (top 
     ];
     listed = λ i q e. h.listed i q (at_front pieces p q i e);
     apart = λ i j q r b e f. h.apart i j q r b (at_front pieces p q i e) (at_front pieces p r j f);
-    loose_waits = λ g l u. (h.listed (length pieces) p (at_end pieces p)).waits g l u;
-    loose_apart = λ i q e g l u w. h.apart i (length pieces) q p (slice_get_within pieces i q e) (at_front pieces p q i e) (at_end pieces p) g l w u;
+    loose_waits = λ g l u. (h.listed (length pieces) p (slice_get-push pieces p)).waits g l u;
+    loose_apart = λ i q e g l u w. h.apart i (length pieces) q p (slice_get_within pieces i q e) (at_front pieces p q i e) (slice_get-push pieces p) g l w u;
   }
 
   -- a piece of loose places is listed
@@ -100,15 +90,15 @@ module _ (m : Meaning) (s : Problem) (strict : Bool) (label : ℕ → ℕ) (top 
         | inr eq ↦ absurd (omega (arith, eq.0, er.0, b))
       ]
     ];
-    loose_waits = λ g l u. h.loose_waits g l (from_minus (loose g) (holds p.places.items g) u).0;
+    loose_waits = λ g l u. h.loose_waits g l (but_not (loose g) (holds p.places.items g) u).0;
     loose_apart = λ i q e g l u w. elim (front_or_end pieces p q i e) [
-      | inl f ↦ h.loose_apart i q f g l (from_minus (loose g) (holds p.places.items g) u).0 w
-      | inr f ↦ both_ways (holds p.places.items g) (from_minus (loose g) (holds p.places.items g) u).1 (ap (λ (x : Piece). holds x.places.items g) f.1 ∙ w)
+      | inl f ↦ h.loose_apart i q f g l (but_not (loose g) (holds p.places.items g) u).0 w
+      | inr f ↦ both_ways (holds p.places.items g) (but_not (loose g) (holds p.places.items g) u).1 (ap (λ (x : Piece). holds x.places.items g) f.1 ∙ w)
     ];
   } where
     choose : (g : ℕ) → loose g ≡ true → (x : Bool) → holds p.places.items g ≡ x → ((loose g && not (holds p.places.items g)) ≡ true) ⊎ ((i : ℕ) × (q : Piece) × (slice_get (pieces ++ p ∷ []) i ≡ Some q) × (holds q.places.items g ≡ true))
-    choose g u true w = inr (length pieces, p, at_end pieces p, w)
-    choose g u false w = inl (in_minus (loose g) (holds p.places.items g) u w)
+    choose g u true w = inr (length pieces, p, slice_get-push pieces p, w)
+    choose g u false w = inl (not_but (loose g) (holds p.places.items g) u w)
 
   -- loose places get their value
   module _ (places : HasPlaces s) (loose : ℕ → Bool) (pieces : List Piece) (h : ArePartsOf m s strict label top loose pieces values) (level : List ℕ) (value : Fraction) (after : List (Option Fraction)) (put : AreSettled level value values after)
@@ -159,8 +149,8 @@ module _ (m : Meaning) (s : Problem) (strict : Bool) (label : ℕ → ℕ) (top 
             waits = λ g l u. put.kept g (away i p e g l u (holds level g) refl) ∙ old.waits g l u;
           };
       apart = h.apart;
-      loose_waits = λ g l u. put.kept g (from_minus (loose g) (holds level g) u).1 ∙ h.loose_waits g l (from_minus (loose g) (holds level g) u).0;
-      loose_apart = λ i p e g l u. h.loose_apart i p e g l (from_minus (loose g) (holds level g) u).0;
+      loose_waits = λ g l u. put.kept g (but_not (loose g) (holds level g) u).1 ∙ h.loose_waits g l (but_not (loose g) (holds level g) u).0;
+      loose_apart = λ i p e g l u. h.loose_apart i p e g l (but_not (loose g) (holds level g) u).0;
     } where
       go : (g : ℕ) (v : Fraction) → g < s.count → slice_get after g ≡ Some (Some v) → (x : Bool) → holds level g ≡ x → IsSettledAt m s strict label after g v
       go g v l e true u = settled_new g v l e u
@@ -168,7 +158,7 @@ module _ (m : Meaning) (s : Problem) (strict : Bool) (label : ℕ → ℕ) (top 
 
       wait : (g : ℕ) → g < s.count → slice_get after g ≡ Some None → (x : Bool) → holds level g ≡ x → ((loose g && not (holds level g)) ≡ true) ⊎ ((i : ℕ) × (p : Piece) × (slice_get pieces i ≡ Some p) × (holds p.places.items g ≡ true))
       wait g l e true u = absurd (none_some (slice_get after g) value e (in_level g l u))
-      wait g l e false u = elim (h.waiting g l (sym (put.kept g u) ∙ e)) [ inl k ↦ inl (in_minus (loose g) (holds level g) k u) | inr k ↦ inr k ]
+      wait g l e false u = elim (h.waiting g l (sym (put.kept g u) ∙ e)) [ inl k ↦ inl (not_but (loose g) (holds level g) k u) | inr k ↦ inr k ]
 
       away : (i : ℕ) (p : Piece) → slice_get pieces i ≡ Some p → (g : ℕ) → g < s.count → holds p.places.items g ≡ true → (x : Bool) → holds level g ≡ x → x ≡ false
       away i p e g l u false w = refl

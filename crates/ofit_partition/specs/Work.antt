@@ -1,5 +1,6 @@
 -- The pieces that are left, and the values that stand.
 use Rattle.std.specs.Prelude.{◌≡◌, ℕ, ◌*◌, ◌-◌, ◌<◌, ◌≤◌, ◌⊎◌, ◌↔◌, Bool, true, false, List, length, All, Any, slice_get, Option, Some, None, sum_by}
+use Rattle.ofit_num.specs.declared.limits.TheConstants.{MOST_GROUPS, MOST_PAIRS}
 use Rattle.ofit_num.specs.Groups.{RowLists}
 use Rattle.ofit_num.specs.Problem.{Problem}
 use Rattle.ofit_num.specs.Meaning.{Meaning}
@@ -14,8 +15,8 @@ use Rattle.ofit_partition.specs.Piece.{holds, IsPiece}
 pub record IsFittableOrder (groups : RowLists) (pairs : List (ℕ × ℕ)) : Type 0 where
   pub plain : All (λ rows. Any IsPlain rows) groups
   pub fittable : AreFittable (all_rows groups)
-  pub few_groups : length groups ≤ 2000
-  pub few_pairs : length pairs ≤ 20000
+  pub few_groups : length groups ≤ MOST_GROUPS
+  pub few_pairs : length pairs ≤ MOST_PAIRS
   pub places : All (λ e. (e.0 < length groups) × (e.1 < length groups)) pairs
 
 -- the part of the place is a level, all of which has this value

@@ -1,4 +1,5 @@
 ghost use Rattle.std.specs.Prelude.{◌≡◌, ◌<◌, ◌≤◌, ◌+◌, ◌-◌, ◌^◌, All, Any, IfOk, length, vec_len, slice_get, Some, None, false};
+ghost use Rattle.ofit_num.specs.declared.limits.TheConstants.{MOST_GROUPS, MOST_PAIRS};
 ghost use Rattle.ofit_num.specs.Limits.{all_rows};
 ghost use Rattle.ofit_num.specs.Trial.{trial_of};
 ghost use Rattle.ofit_num.specs.Fit.{LeastBestValues};
@@ -45,8 +46,8 @@ pub fn partition<L: Loss>(
 ) -> Result<Vec<Frac>, AllocError>
     requires plain { All (λ rows. Any IsPlain rows) groups.now }
     requires fittable { AreFittable (all_rows groups.now) }
-    requires few_groups { length groups.now ≤ 2000 }
-    requires few_pairs { length pairs.now ≤ 20000 }
+    requires few_groups { length groups.now ≤ MOST_GROUPS }
+    requires few_pairs { length pairs.now ≤ MOST_PAIRS }
     requires places { All (λ e. (e.0 < length groups.now) × (e.1 < length groups.now)) pairs.now }
     requires room { tally.old.cuts < 2 ^ 64 - 1 }
     ensures count { IfOk result (λ values. vec_len values ≡ length groups.now) }

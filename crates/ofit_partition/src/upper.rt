@@ -1,4 +1,5 @@
 ghost use Rattle.std.specs.Prelude.{◌≡◌, ◌<◌, ◌≤◌, ◌*◌, ◌^◌, ℕ, true, ℤ, All, IfOk, length, map, slice_index};
+ghost use Rattle.ofit_num.specs.declared.limits.TheConstants.{MOST_GROUPS, MOST_PAIRS};
 ghost use Rattle.ofit_cut.specs.Sets.{total_size};
 ghost use Rattle.ofit_num.specs.Problem.{Problem};
 ghost use Rattle.ofit_num.specs.Sets.{IsGreatestUpper};
@@ -38,8 +39,8 @@ pub(crate) fn greatest_upper(
     requires numbered { AreNumbered positions.now piece.now.places.items }
     requires one_each { length weights.now ≡ length piece.now.places.items }
     requires inside { All (λ e. (holds piece.now.places.items e.0 ≡ true) × (holds piece.now.places.items e.1 ≡ true)) piece.now.pairs.items }
-    requires few_places { length piece.now.places.items ≤ 2000 }
-    requires few_pairs { length piece.now.pairs.items ≤ 20000 }
+    requires few_places { length piece.now.places.items ≤ MOST_GROUPS }
+    requires few_pairs { length piece.now.pairs.items ≤ MOST_PAIRS }
     requires small { total_size weights.now ≤ 2 * 10 ^ 33 }
     ensures counted { IfOk result (λ set. length set.items ≡ length piece.now.places.items) }
     ensures greatest { IfOk result (λ set. (s : Problem) (f : ℕ → ℤ) → IsPiece s piece.now → weights.now ≡ map f piece.now.places.items

@@ -16,7 +16,7 @@ use Rattle.ofit_num.proofs.TableScaling.{first_power}
 use Rattle.ofit_loss.proofs.SquaresLeast.{weighs}
 use Rattle.ofit_loss.specs.Squares.{weighted_sum}
 use Rattle.ofit_report.specs.BlockMeans.{IsMean, IsWholeValue, IsMeanOrWhole}
-use Rattle.ofit_report.specs.Cost.{weighted_squares}
+use Rattle.ofit_report.specs.RowSums.{weighted_squares}
 
 abbrev pub once : Factors
 once = record { above = 1; below = 1 }

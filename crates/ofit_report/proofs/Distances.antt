@@ -9,7 +9,7 @@ use Rattle.ofit_num.specs.Limits.{total_weight}
 use Rattle.ofit_num.specs.Loss.{factor_of, residual, row_sum, median}
 use Rattle.ofit_num.proofs.RowSums.{row_sum-append, row_sum-same}
 use Rattle.ofit_num.proofs.TableScaling.{first_power}
-use Rattle.ofit_report.specs.Cost.{distance}
+use Rattle.ofit_report.specs.RowSums.{distance}
 use Rattle.ofit_report.proofs.Costs.{once, one_factor}
 
 pub distances_more : (value : Fraction) (rows : List Row) (i : ℕ) (d : Row) → i < length rows → row_sum (λ r. distance r value) (take (i + 1) rows) ≡ row_sum (λ r. distance r value) (take i rows) + distance (get_or rows i d) value

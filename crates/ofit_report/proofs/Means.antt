@@ -38,7 +38,8 @@ use Rattle.ofit_report.specs.Cost.{rows_among}
 use Rattle.ofit_report.proofs.Members.{member_sum, member_sum-has, member_sum-same}
 use Rattle.ofit_study.proofs.Places.{group_count}
 use Rattle.ofit_report.proofs.Places.{tight_within}
-use Rattle.ofit_report.proofs.Tightness.{contains_filter, own_value, same_tight, connected_same}
+use Rattle.ofit_num.proofs.Members.{Contains-filter}
+use Rattle.ofit_report.proofs.Tightness.{own_value, same_tight, connected_same}
 
 -- a fraction in lowest terms that is a whole number has the denominator 1
 whole_den : (f : Fraction) (z : ℤ) → IsLowest f → z *ℤ pos f.den ≡ f.num → f.den ≡ 1
@@ -117,14 +118,14 @@ module _ (s : Study) (v : IsValid s) (values : List Fraction) (best : BestValues
   closed_up i d l same held =
       let e : ℕ × ℕ = get_or (places_of s) i d in
       let pair : Contains (places_of s) e = Contains-get_or (places_of s) i d l in
-      let tight = contains_filter (is_tight values) (places_of s) e pair (same_tight values scale e (pairs_inside e pair).0 (pairs_inside e pair).1 same) in
+      let tight = Contains-filter (is_tight values) (places_of s) e pair (same_tight values scale e (pairs_inside e pair).0 (pairs_inside e pair).1 same) in
       has-from_Contains members e.1 (members_along (block_order s values) k members are within e.0 e.1 (inl tight) (Contains-from_has members e.0 held))
 
   closed_down : IsClosedDown (problem_stated s) (trial_of values) (has members)
   closed_down i d l same held =
       let e : ℕ × ℕ = get_or (places_of s) i d in
       let pair : Contains (places_of s) e = Contains-get_or (places_of s) i d l in
-      let tight = contains_filter (is_tight values) (places_of s) e pair (same_tight values scale e (pairs_inside e pair).0 (pairs_inside e pair).1 same) in
+      let tight = Contains-filter (is_tight values) (places_of s) e pair (same_tight values scale e (pairs_inside e pair).0 (pairs_inside e pair).1 same) in
       has-from_Contains members e.0 (members_along (block_order s values) k members are within e.1 e.0 (inr tight) (Contains-from_has members e.1 held))
 
   settled : IsSettled squares (problem_stated s) (trial_of values)

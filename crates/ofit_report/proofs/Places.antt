@@ -9,7 +9,7 @@ use Rattle.ofit_study.specs.Study.{Study, IsValid, names_of, groups_of, places_o
 use Rattle.ofit_study.proofs.Places.{group_count}
 use Rattle.ofit_study.proofs.Stating.{pairs_have_places}
 use Rattle.ofit_report.specs.Tight.{is_tight, tight_among}
-use Rattle.ofit_report.specs.Blocks.{IsSameOrder}
+use Rattle.ofit_report.specs.SameOrder.{IsSameOrder}
 
 -- tight pairs are between places
 pub tight_within : (s : Study) → IsValid s → (values : List Fraction) (pairs : List (ℕ × ℕ)) (n : ℕ) → pairs ≡ tight_among values (places_of s) → n ≡ length (names_of s) → AreWithin pairs n

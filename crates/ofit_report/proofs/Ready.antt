@@ -13,7 +13,8 @@ use Rattle.ofit_order.proofs.Walks.{IsReached-refl}
 use Rattle.ofit_order.specs.Connection.{Joins}
 use Rattle.ofit_study.specs.Study.{Study, IsValid, names_of}
 use Rattle.ofit_report.specs.Tight.{value_at}
-use Rattle.ofit_report.specs.Blocks.{block_order, IsSameOrder}
+use Rattle.ofit_report.specs.Blocks.{block_order}
+use Rattle.ofit_report.specs.SameOrder.{IsSameOrder}
 use Rattle.ofit_report.specs.Cost.{rows_among}
 use Rattle.ofit_report.proofs.Members.{among_within, among_some}
 use Rattle.ofit_report.proofs.SameOrder.{members_of}

@@ -4,7 +4,7 @@ use Rattle.ofit_order.specs.Relation.{Relation}
 use Rattle.ofit_order.specs.Connection.{Joins, AreConnected}
 use Rattle.ofit_order.specs.Component.{IsLeastPlace, AreLeastPlaces, IsComponentCount, IsComponentOf, AreMembers}
 use Rattle.ofit_order.proofs.Walks.{IsReached-weaker}
-use Rattle.ofit_report.specs.Blocks.{IsSameOrder}
+use Rattle.ofit_report.specs.SameOrder.{IsSameOrder}
 
 pub back : (order other : Relation) → IsSameOrder order other → IsSameOrder other order
 back order other same = record { places = sym same.places; pairs = λ e. ((same.pairs e).1, (same.pairs e).0) }

@@ -1,10 +1,9 @@
 -- Groups that pairs of equal values connect have one value.
-use Rattle.std.proofs.Common.{◌≡◌, ℕ, zero, suc, ◌<◌, inl, inr, refl, sym, ap, ◌∙◌, arith, cond, Bool, true, false, List, [], ◌∷◌, length, get_or}
-use Rattle.std.proofs.lemmas.Bool.{both_ways}
+use Rattle.std.proofs.Common.{◌≡◌, ℕ, ◌<◌, inl, inr, refl, sym, ap, ◌∙◌, arith, true, List, length, get_or}
 use Rattle.std.proofs.lemmas.Bool.Decides.{Decides-int_eq}
 use Rattle.std.proofs.lemmas.List.Elements.{All-filter, All-contains, All-contains_itself, filter_passes}
 use Rattle.std.proofs.lemmas.Option.{slice_get-get_or}
-use Rattle.std.specs.List.{Contains, filter}
+use Rattle.std.specs.List.{Contains}
 use Rattle.std.specs.Ordering.{int_eq}
 use Rattle.std.specs.Prelude.{ℤ, pos, ◌*ℤ◌, slice_get, Some, Option, unwrap_or}
 use Rattle.ofit_num.specs.Fraction.{Fraction}
@@ -14,18 +13,6 @@ use Rattle.ofit_num.proofs.Trials.{value_of-den, den_above}
 use Rattle.ofit_order.specs.Connection.{Joins, AreConnected}
 use Rattle.ofit_order.proofs.Walks.{IsReached-keeps}
 use Rattle.ofit_report.specs.Tight.{value_at, is_tight, tight_among}
-
-contains_cons : {X : Type 0} (y : X) (ys : List X) (x : X) → Contains ys x → Contains (y ∷ ys) x
-contains_cons y ys x h = (suc h.0, omega (arith, h.1), h.2)
-
-pub contains_filter : {X : Type 0} (keep : X → Bool) (xs : List X) (x : X) → Contains xs x → keep x ≡ true → Contains (filter keep xs) x
-contains_filter keep [] x h u = absurd (omega (arith, h.1))
-contains_filter {X} keep (y ∷ ys) x h u = go h.0 h.1 h.2 (keep y) refl (contains_filter keep ys x) where
-  go : (k : ℕ) → k < length (y ∷ ys) → get_or (y ∷ ys) k x ≡ x → (b : Bool) → keep y ≡ b → (Contains ys x → keep x ≡ true → Contains (filter keep ys) x) → Contains (cond b (y ∷ filter keep ys) (filter keep ys)) x
-  go zero l e true f later = (0, omega arith, e)
-  go zero l e false f later = absurd (both_ways (keep y) f (ap keep e ∙ u))
-  go (suc k) l e true f later = contains_cons y (filter keep ys) x (later (k, omega arith, e) u)
-  go (suc k) l e false f later = later (k, omega arith, e) u
 
 from_equal : (x y : ℤ) → int_eq x y ≡ true → x ≡ y
 from_equal x y e = grind (arith, Decides-int_eq)

@@ -1,5 +1,6 @@
 -- What values a best fit gives blocks under squares.
-use Rattle.std.specs.Prelude.{◌≡◌, ◌≤◌, ◌<◌, ◌^◌, ◌⊎◌, ℕ, List, length, pos, ◌*ℤ◌, unsigned_abs}
+use Rattle.std.specs.Prelude.{◌≡◌, ◌≤◌, ◌<◌, ◌⊎◌, ℕ, List, length, pos, ◌*ℤ◌, unsigned_abs}
+use Rattle.ofit_num.specs.declared.limits.TheConstants.{MOST_UNITS}
 use Rattle.ofit_num.specs.declared.row.Row.{Row}
 use Rattle.ofit_num.specs.Fraction.{Fraction, IsLowest}
 use Rattle.ofit_num.specs.Limits.{total_weight}
@@ -16,7 +17,7 @@ IsMean rows value = value.num *ℤ pos (total_weight rows) ≡ weighted_sum rows
 
 -- the value is a whole number of units, within the limit of bounds
 abbrev pub IsWholeValue : Fraction → Type 0
-IsWholeValue value = (value.den ≡ 1) × (unsigned_abs value.num ≤ 10 ^ 9)
+IsWholeValue value = (value.den ≡ 1) × (unsigned_abs value.num ≤ MOST_UNITS)
 
 -- under squares a best fit gives a block the weighted mean of its rows, or a bound
 abbrev pub IsMeanOrWhole : List Row → Fraction → Type 0

@@ -1,6 +1,5 @@
 -- Blocks: the largest sets of groups that pairs between groups of equal value join, numbered from 1 by their first groups.
-use Rattle.std.specs.Prelude.{◌≡◌, ◌+◌, ◌<◌, ◌↔◌, ℕ, List, length, slice_index}
-use Rattle.std.specs.List.{Contains}
+use Rattle.std.specs.Prelude.{◌≡◌, ◌+◌, ◌<◌, ℕ, List, length, slice_index}
 use Rattle.ofit_num.specs.Fraction.{Fraction}
 use Rattle.ofit_order.specs.Relation.{Relation}
 use Rattle.ofit_order.specs.Component.{IsComponentOf}
@@ -23,8 +22,3 @@ IsBlockOf s values block g = (k : ℕ) × (block ≡ k + 1) × IsComponentOf (bl
 pub record AreBlocks (s : Study) (values : List Fraction) (blocks : List ℕ) : Type 0 where
   pub count : length blocks ≡ length (names_of s)
   pub each : (g : ℕ) → g < length (names_of s) → IsBlockOf s values (slice_index blocks g) g
-
--- the same places and pairs, whatever the order of the pairs
-pub record IsSameOrder (order other : Relation) : Type 0 where
-  pub places : order.places ≡ other.places
-  pub pairs : (e : ℕ × ℕ) → Contains order.pairs e ↔ Contains other.pairs e

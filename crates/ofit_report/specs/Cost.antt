@@ -1,9 +1,8 @@
 -- What rows cost at a value.
-use Rattle.std.specs.Prelude.{◌*◌, ◌^◌, ℕ, ℤ, List, map, slice_index, pos, ◌*ℤ◌, unsigned_abs}
+use Rattle.std.specs.Prelude.{◌^◌, ℕ, List, map, slice_index, pos}
 use Rattle.ofit_num.specs.declared.row.Row.{Row}
 use Rattle.ofit_num.specs.Fraction.{Fraction}
 use Rattle.ofit_num.specs.Limits.{all_rows}
-use Rattle.ofit_num.specs.Loss.{int_row_sum, residual}
 use Rattle.ofit_num.specs.Meaning.{Meaning}
 use Rattle.ofit_num.specs.Reduced.{Reduces}
 use Rattle.ofit_study.specs.Study.{Study, problem_stated}
@@ -20,11 +19,3 @@ block_value values members = value_at values (slice_index members 0)
 -- the cost at n/d, over d to the degree, in lowest terms
 abbrev pub IsCost : Meaning → List Row → Fraction → Fraction → Type 0
 IsCost m rows value cost = Reduces (pos (m.cost rows value.num value.den)) (pos (value.den ^ m.degree)) cost
-
--- a row's weight times its distance from the value, over the value's denominator
-abbrev pub distance : Row → Fraction → ℕ
-distance r value = unsigned_abs (residual r value.num value.den) * r.weight
-
--- the sum of the squared values, each times its weight
-abbrev pub weighted_squares : List Row → ℤ
-weighted_squares rows = int_row_sum (λ r. (r.value *ℤ r.value) *ℤ pos r.weight) rows

@@ -1,11 +1,13 @@
 ghost use Rattle.std.specs.Prelude.{◌≡◌, ◌≤◌, ◌<◌, ◌+◌, ◌*◌, ◌^◌, ℤ, MatchBool, length, pos, ◌≤ℤ◌, ◌+ℤ◌, ◌-ℤ◌, ◌*ℤ◌, unsigned_abs};
+ghost use Rattle.ofit_num.specs.declared.limits.TheConstants.{MOST_UNITS, MOST_WEIGHT};
 ghost use Rattle.ofit_num.specs.Limits.{AreWithinLimits};
 ghost use Rattle.ofit_num.specs.Loss.{residual, squares, median};
 ghost use Rattle.ofit_num.specs.Reduced.{Reduces};
 ghost use Rattle.ofit_study.specs.declared.loss.LossKind.TheVariants.{Squares};
 ghost use Rattle.ofit_study.specs.Study.{meaning_of};
 ghost use Rattle.ofit_report.specs.BlockMeans.{IsMeanOrWhole};
-ghost use Rattle.ofit_report.specs.Cost.{IsCost, distance};
+ghost use Rattle.ofit_report.specs.Cost.{IsCost};
+ghost use Rattle.ofit_report.specs.RowSums.{distance};
 
 use crate::rows::{Sums, plus, square, sums_of};
 use ofit_num::{Frac, Row, lowest};
@@ -46,7 +48,7 @@ fn minus(left: i128, right: i128) -> i128
 /// that of their squares.
 fn cost_at_mean(all: Sums) -> (i128, i128)
     requires least_weight { 1 ≤ all.weight }
-    requires most_weight { all.weight ≤ 10 ^ 10 }
+    requires most_weight { all.weight ≤ MOST_WEIGHT }
     requires most_sum { unsigned_abs all.sum ≤ 10 ^ 19 }
     requires most_squares { unsigned_abs all.squares ≤ 10 ^ 28 }
     requires spread { (all.sum *ℤ all.sum) ≤ℤ (all.squares *ℤ pos all.weight) }
@@ -61,8 +63,8 @@ fn cost_at_mean(all: Sums) -> (i128, i128)
 
 /// The cost at a whole value v: Q - 2vS + vvW.
 fn cost_at_whole(all: Sums, value: i128) -> (i128, i128)
-    requires value { unsigned_abs value ≤ 10 ^ 9 }
-    requires most_weight { all.weight ≤ 10 ^ 10 }
+    requires value { unsigned_abs value ≤ MOST_UNITS }
+    requires most_weight { all.weight ≤ MOST_WEIGHT }
     requires most_sum { unsigned_abs all.sum ≤ 10 ^ 19 }
     requires most_squares { unsigned_abs all.squares ≤ 10 ^ 28 }
     requires cost { pos 0 ≤ℤ ((all.squares -ℤ pos 2 *ℤ (value *ℤ all.sum)) +ℤ (value *ℤ value) *ℤ pos all.weight) }
@@ -76,7 +78,7 @@ fn cost_at_whole(all: Sums, value: i128) -> (i128, i128)
 
 /// Whether a value is the weighted mean of rows with these sums.
 fn is_mean(all: Sums, value: &Frac) -> bool
-    requires most_weight { all.weight ≤ 10 ^ 10 }
+    requires most_weight { all.weight ≤ MOST_WEIGHT }
     requires most_sum { unsigned_abs all.sum ≤ 10 ^ 19 }
     ensures mean { MatchBool result (value.now.num *ℤ pos all.weight ≡ all.sum *ℤ pos value.now.den) (value.now.num *ℤ pos all.weight ≡ all.sum *ℤ pos value.now.den → ⊥) }
     ensures den { 0 < value.now.den }
@@ -102,7 +104,7 @@ fn squared_cost(rows: &[Row], value: &Frac) -> (i128, i128)
 
 /// What a row's value is above n/d, times d.
 fn residual_of(row: &Row, value: &Frac) -> i128
-    requires { unsigned_abs row.now.value ≤ 10 ^ 9 }
+    requires { unsigned_abs row.now.value ≤ MOST_UNITS }
     ensures exact { result ≡ residual row.now value.now.num value.now.den }
     ensures size { unsigned_abs result ≤ 2 * 10 ^ 21 }
 {
@@ -111,8 +113,8 @@ fn residual_of(row: &Row, value: &Frac) -> i128
 
 /// A row's weight times its distance from the value, over the value's denominator.
 fn distance_of(row: &Row, value: &Frac) -> i128
-    requires row { unsigned_abs row.now.value ≤ 10 ^ 9 }
-    requires weight { row.now.weight ≤ 10 ^ 10 }
+    requires row { unsigned_abs row.now.value ≤ MOST_UNITS }
+    requires weight { row.now.weight ≤ MOST_WEIGHT }
     ensures exact { result ≡ pos (distance row.now value.now) }
     ensures size { distance row.now value.now ≤ 2 * 10 ^ 21 * row.now.weight }
 {

@@ -4,11 +4,13 @@ ghost use Rattle.ofit_order.specs.Component.{IsComponentCount, HasComponent};
 ghost use Rattle.ofit_records.specs.Written.{record_text, records_text};
 ghost use Rattle.ofit_study.specs.Study.{names_of, problem_stated, meaning_of};
 ghost use Rattle.ofit_report.specs.BlockMeans.{HasBlockMeans};
-ghost use Rattle.ofit_report.specs.Blocks.{order_of, block_order, IsSameOrder};
+ghost use Rattle.ofit_report.specs.Blocks.{block_order};
+ghost use Rattle.ofit_report.specs.SameOrder.{IsSameOrder};
 ghost use Rattle.ofit_report.specs.ReportText.{IsGroupRecord, IsBlockRecord, AreRecords, ReportText};
 
 use crate::block::{block_of, order_of_blocks};
 use crate::cost::cost_of;
+use crate::count::count_components;
 use crate::header::{write_header, write_size};
 use crate::records::{rounded, write_block, write_group};
 use crate::rows::rows_of;
@@ -116,14 +118,6 @@ fn report_blocks(
         report_block(alloc, writer, study, values, order, block)?;
     }
     Ok(())
-}
-
-/// How many components the study has.
-fn count_components(alloc: Global, study: &Study) -> Result<u32, AllocError>
-    ensures { IfOk result (IsComponentCount (order_of study.now)) }
-{
-    let order = study.order(alloc)?;
-    Ok(order.component_count())
 }
 
 /// The report of a study with these values.

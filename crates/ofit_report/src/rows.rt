@@ -1,8 +1,10 @@
 ghost use Rattle.std.specs.Prelude.{◌≡◌, ◌≤◌, ◌<◌, ◌+◌, ◌*◌, ◌^◌, ◌++◌, IfOk, OnOk, length, pos, All, ◌+ℤ◌, ◌*ℤ◌, unsigned_abs};
+ghost use Rattle.ofit_num.specs.declared.limits.TheConstants.{MOST_UNITS, MOST_WEIGHT};
 ghost use Rattle.ofit_num.specs.Limits.{AreWithinLimits, total_weight};
 ghost use Rattle.ofit_study.specs.Study.{names_of};
 ghost use Rattle.ofit_loss.specs.Squares.{weighted_sum};
-ghost use Rattle.ofit_report.specs.Cost.{rows_among, weighted_squares};
+ghost use Rattle.ofit_report.specs.Cost.{rows_among};
+ghost use Rattle.ofit_report.specs.RowSums.{weighted_squares};
 
 use ofit_num::Row;
 use ofit_study::Study;
@@ -20,7 +22,7 @@ pub(crate) struct Sums {
 /// A number times a weight.
 fn weighted(number: i128, weight: u64) -> i128
     requires number { unsigned_abs number ≤ 10 ^ 18 }
-    requires weight { weight ≤ 10 ^ 10 }
+    requires weight { weight ≤ MOST_WEIGHT }
     ensures exact { result ≡ number *ℤ pos weight }
     ensures size { unsigned_abs result ≡ unsigned_abs number * weight }
 {
@@ -29,18 +31,18 @@ fn weighted(number: i128, weight: u64) -> i128
 
 /// A row's value times its weight.
 fn weighted_value(row: &Row) -> i128
-    requires value { unsigned_abs row.now.value ≤ 10 ^ 9 }
-    requires weight { row.now.weight ≤ 10 ^ 10 }
+    requires value { unsigned_abs row.now.value ≤ MOST_UNITS }
+    requires weight { row.now.weight ≤ MOST_WEIGHT }
     ensures exact { result ≡ row.now.value *ℤ pos row.now.weight }
-    ensures size { unsigned_abs result ≤ 10 ^ 9 * row.now.weight }
+    ensures size { unsigned_abs result ≤ MOST_UNITS * row.now.weight }
 {
     weighted(i128::from(row.value), row.weight)
 }
 
 /// A row's squared value times its weight.
 fn weighted_square(row: &Row) -> i128
-    requires value { unsigned_abs row.now.value ≤ 10 ^ 9 }
-    requires weight { row.now.weight ≤ 10 ^ 10 }
+    requires value { unsigned_abs row.now.value ≤ MOST_UNITS }
+    requires weight { row.now.weight ≤ MOST_WEIGHT }
     ensures exact { result ≡ (row.now.value *ℤ row.now.value) *ℤ pos row.now.weight }
     ensures size { unsigned_abs result ≤ 10 ^ 18 * row.now.weight }
 {
@@ -60,7 +62,7 @@ pub(crate) fn plus(left: i128, right: i128) -> i128
 
 /// The square of a number.
 pub(crate) fn square(number: i128) -> i128
-    requires { unsigned_abs number ≤ 10 ^ 9 }
+    requires { unsigned_abs number ≤ MOST_UNITS }
     ensures exact { result ≡ number *ℤ number }
     ensures size { unsigned_abs result ≤ 10 ^ 18 }
 {
@@ -69,7 +71,7 @@ pub(crate) fn square(number: i128) -> i128
 
 /// The total weight of rows.
 pub(crate) fn weight_of(rows: &[Row]) -> u64
-    requires { total_weight rows.now ≤ 10 ^ 10 }
+    requires { total_weight rows.now ≤ MOST_WEIGHT }
     ensures { result ≡ total_weight rows.now }
 {
     rows.iter().map(|row| row.weight).sum()
@@ -81,7 +83,7 @@ pub(crate) fn sums_of(rows: &[Row]) -> Sums
     ensures weight { result.weight ≡ total_weight rows.now }
     ensures sum { result.sum ≡ weighted_sum rows.now }
     ensures squares { result.squares ≡ weighted_squares rows.now }
-    ensures most_weight { result.weight ≤ 10 ^ 10 }
+    ensures most_weight { result.weight ≤ MOST_WEIGHT }
     ensures most_sum { unsigned_abs result.sum ≤ 10 ^ 19 }
     ensures most_squares { unsigned_abs result.squares ≤ 10 ^ 28 }
 {

@@ -13,7 +13,7 @@ const ROOM: u64 = 200_000;
 pub(crate) struct Desk {
     folder: MemFolder,
     pub(crate) failing_put: u64,
-    room: u64,
+    pub(crate) room: u64,
     err_room: u64,
     pub(crate) out: Vec<u8>,
     err: Vec<u8>,
@@ -123,6 +123,24 @@ fn run_unseen<R: Abort + Files>(
     Ok(())
 }
 
+/// Runs the line's words. The run has to end with the line's numbers, and its output begins with these
+/// bytes.
+fn run_begun<R: Abort + Files>(
+    rt: &R,
+    alloc: Global,
+    desk: &mut Desk,
+    line: &str,
+    wanted: &[u8],
+) -> Result<(), Fail> {
+    run_unseen(rt, alloc, desk, line)?;
+    let out = text_of(desk.out.as_slice());
+    assert!(rt;
+        out.starts_with(text_of(wanted)),
+        "{line} begins with another text"
+    );
+    Ok(())
+}
+
 /// What the last run told on err.
 fn err_line<R: Abort>(rt: &R, alloc: Global, desk: &Desk, body: &str) -> Result<(), Fail> {
     let wanted = bytes_of(alloc, body)?;
@@ -160,6 +178,8 @@ fn take_section<R: Abort + Files>(
         run_line(rt, alloc, desk, rest, bytes_of(alloc, body)?.as_slice())?;
     } else if kind == "cut" {
         run_line(rt, alloc, desk, rest, body.as_bytes())?;
+    } else if kind == "begins" {
+        run_begun(rt, alloc, desk, rest, bytes_of(alloc, body)?.as_slice())?;
     } else if kind == "any" {
         run_unseen(rt, alloc, desk, rest)?;
     } else if kind == "err" {
@@ -179,6 +199,7 @@ fn take_section<R: Abort + Files>(
 /// - `file NAME`: the body is held as a file;
 /// - `run STATUS FITS CUTS WORDS`: a run ends with this status and these counts, and its output is the body;
 /// - `cut STATUS FITS CUTS WORDS`: the same, where the output's last line has no end;
+/// - `begins STATUS FITS CUTS WORDS`: the same, where the output begins with the body;
 /// - `any STATUS FITS CUTS WORDS`: the same, whatever the output;
 /// - `keep NAME`: the output is held as a file;
 /// - `err`: the body is what the run told on err.

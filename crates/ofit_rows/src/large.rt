@@ -76,3 +76,76 @@ fn a_long_text_is_put_in_pieces(rt: HostRuntime) -> Result<(), Fail> {
     assert_eq!(rt; length, 5081);
     Ok(())
 }
+
+/// How the words end over the desk's files: status, fits and cuts.
+fn told(rt: &HostRuntime, desk: &mut Desk, line: &str) -> Result<String, AllocError> {
+    let mut words = Vec::new(rt.alloc());
+    for word in line.split(' ') {
+        words.push(String::from_str(rt.alloc(), word)?)?;
+    }
+    desk.run(rt, rt.alloc(), words.as_slice())
+}
+
+/// So many copies of a line.
+fn lines_of(alloc: Global, line: &[u8], count: u32) -> Result<Vec<u8>, AllocError> {
+    let mut lines = Vec::new(alloc);
+    for _ in 0..count {
+        lines.extend_from_slice(line)?;
+    }
+    Ok(lines)
+}
+
+/// Whether the script is refused.
+fn is_script_refused(rt: &HostRuntime, script: &[u8]) -> Result<bool, AllocError> {
+    let mut desk = Desk::new(rt.alloc(), 0)?;
+    desk.hold("d", b"group,value\nA,1\n")?;
+    desk.hold("s", script)?;
+    let ended = told(rt, &mut desk, "session d s")?;
+    Ok(ended.as_str() == "3 0 0" && desk.out.is_empty())
+}
+
+#[test]
+fn limits_of_scripts_are_told(rt: HostRuntime) -> Result<(), Fail> {
+    let alloc = rt.alloc();
+    assert!(rt; !is_script_refused(&rt, lines_of(alloc, b"report\n", 100)?.as_slice())?);
+    assert!(rt; is_script_refused(&rt, lines_of(alloc, b"report\n", 101)?.as_slice())?);
+    assert!(rt; !is_script_refused(&rt, lines_of(alloc, b"remove,9\n", 10_000)?.as_slice())?);
+    assert!(rt; is_script_refused(&rt, lines_of(alloc, b"remove,9\n", 10_001)?.as_slice())?);
+    let long = vec![in alloc; 10u8; 33_554_433]?;
+    assert!(rt; is_script_refused(&rt, long.as_slice())?);
+    Ok(())
+}
+
+#[test]
+fn an_unknown_peak_is_fitted_up_to_200_groups(rt: HostRuntime) -> Result<(), Fail> {
+    let mut desk = Desk::new(rt.alloc(), 0)?;
+    desk.room = 2_000_000;
+    desk.hold("d", many_rows(rt.alloc(), 201, 3_000)?.as_slice())?;
+    assert_eq!(rt;
+        told(&rt, &mut desk, "unimodal d places=0")?.as_str(),
+        "3 0 0"
+    );
+    assert_eq!(rt;
+        told(&rt, &mut desk, "verify-unimodal d d places=0")?.as_str(),
+        "3 0 0"
+    );
+    desk.hold("d", many_rows(rt.alloc(), 200, 3_000)?.as_slice())?;
+    assert_eq!(rt;
+        told(&rt, &mut desk, "unimodal d places=0")?.as_str(),
+        "0 0 0"
+    );
+    Ok(())
+}
+
+#[test]
+fn a_sample_is_told_twice_in_the_same_bytes(rt: HostRuntime) -> Result<(), Fail> {
+    let mut desk = Desk::new(rt.alloc(), 0)?;
+    let first = told(&rt, &mut desk, "sample seed=7 groups=400 rows=2000")?;
+    let text = Vec::from_slice(rt.alloc(), desk.out.as_slice())?;
+    let second = told(&rt, &mut desk, "sample seed=7 groups=400 rows=2000")?;
+    assert!(rt; first.starts_with("0 "));
+    assert_eq!(rt; first.as_str(), second.as_str());
+    assert!(rt; !text.is_empty());
+    assert_eq!(rt; text.as_slice(), desk.out.as_slice());
+    Ok(())
+}

@@ -13,8 +13,14 @@ mod large;
 #[cfg(test)]
 mod orders;
 #[cfg(test)]
+mod peaks;
+#[cfg(test)]
 mod refusals;
 #[cfg(test)]
 mod reports;
 #[cfg(test)]
+mod sessions;
+#[cfg(test)]
 mod sheets;
+#[cfg(test)]
+mod tables;

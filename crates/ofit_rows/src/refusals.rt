@@ -100,25 +100,7 @@ ofit: bad setting at word 2
 ofit: bad setting at word 2
 -- run 2 0 0 fit d lo=1.25 places=1x places=2
 -- err
-ofit: bad setting at word 3
--- case jobs that are not built yet
--- file d
-group,value,weight
-A,1,1
-B,3,1
-C,2,1
--- run 3 0 0 session d s
--- err
-ofit: not built
--- run 3 0 0 unimodal d
--- err
-ofit: not built
--- run 3 0 0 levels 4
--- err
-ofit: not built
--- run 3 0 0 sample rows=2000 groups=2000 seed=4294967295 shape=tree loss=median
--- err
-ofit: not built"#;
+ofit: bad setting at word 3"#;
 
 const TABLES: &str = r#"
 -- case faults of the header

@@ -38,6 +38,7 @@ pub(crate) fn fit_edited(
     ensures fit { IfOk result (λ made. IsFit after.now made.0.items) }
     ensures refitted { IfOk result (λ made. IsRefit before.now edit.now after.now made.1.refitted) }
     ensures components { IfOk result (λ made. HasComponentCount (problem_stated after.now) made.1.components) }
+    ensures few { IfOk result (λ made. made.1.refitted ≤ 2) }
     ensures counted { IfOk result (λ made. tally.new.fits ≡ tally.old.fits + made.1.refitted) }
     ensures limited { OnErr result ((tally.new ≡ tally.old) ⊎ ((n : ℕ) × IsRefit before.now edit.now after.now n × (tally.new.fits ≤ tally.old.fits + n))) }
     ensures grown { tally.old.fits ≤ tally.new.fits }

@@ -4,6 +4,7 @@
 
 mod anew;
 mod carry;
+mod lowest;
 mod refit;
 mod session;
 mod touch;

@@ -1,4 +1,5 @@
 use crate::anew::{Touch, fit_edited};
+use crate::lowest::are_lowest;
 use ofit_cert::certify;
 use ofit_fit::fit_study;
 use ofit_num::{Frac, Tally};
@@ -26,7 +27,8 @@ impl Model for Session {
 }
 
 impl Session {
-    ghost use Rattle.std.specs.Prelude.{◌≡◌, ◌≤◌, ◌<◌, ◌+◌, ◌^◌, ◌⊎◌, ℕ, Ok, Some, IfOk, OnOk, OnErr, IfErr, IsSome, length, slice_get};
+    ghost use Rattle.std.specs.Prelude.{◌≡◌, ◌≤◌, ◌<◌, ◌+◌, ◌^◌, ◌⊎◌, ℕ, All, Ok, Some, IfOk, OnOk, OnErr, IfErr, IsSome, length, slice_get};
+    ghost use Rattle.ofit_num.specs.Fraction.{IsLowest};
     ghost use Rattle.ofit_num.specs.Sheet.{FitsCount, sheet_values};
     ghost use Rattle.ofit_num.specs.Verdict.{Passes};
     ghost use Rattle.ofit_fit.specs.Counted.{HasComponentCount, HasCutCount};
@@ -87,6 +89,7 @@ impl Session {
         ensures fit { OnOk result (IsFit self.new.study self.new.values) }
         ensures refitted { IfOk result (λ touch. IsRefit self.old.study edit.now self.new.study touch.refitted) }
         ensures components { IfOk result (λ touch. HasComponentCount (problem_stated self.new.study) touch.components) }
+        ensures few { IfOk result (λ touch. touch.refitted ≤ 2) }
         ensures counted { IfOk result (λ touch. tally.new.fits ≡ tally.old.fits + touch.refitted) }
         ensures refused { IfErr result (λ fault. (fault ≡ Memory) ⊎ (IsRefusal self.old.study edit.now fault × (tally.new ≡ tally.old))) }
         ensures unchanged { OnErr result (self.new ≡ self.old) }
@@ -113,11 +116,13 @@ impl Session {
         Ok(touch)
     }
 
-    /// The report of the study and its values.
+    /// The report of the study and its values, which are in lowest terms.
     pub fn report(&self) -> Result<Vec<u8>, AllocError>
-        ensures { IfOk result (λ text. ReportText self.now.study self.now.values text.items) }
+        ensures told { IfOk result (λ text. ReportText self.now.study self.now.values text.items) }
+        ensures lowest { All IsLowest self.now.values }
     {
         let alloc = *self.values.allocator();
+        are_lowest(self.values.as_slice());
         write_report(alloc, &self.study, self.values.as_slice())
     }
 

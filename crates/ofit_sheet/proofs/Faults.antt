@@ -1,6 +1,7 @@
 -- What is wrong with the fields of a record is wrong with the record.
-use Rattle.std.proofs.Common.{◌≡◌, ℕ, ◌≤◌, ◌^◌, ℤ, pos, List, Some, Err, refl, sym, ap, subst, ◌∙◌}
+use Rattle.std.proofs.Common.{◌≡◌, ℕ, ◌≤◌, ℤ, pos, List, Some, Err, refl, sym, ap, subst, ◌∙◌}
 use Rattle.std.specs.Prelude.{unsigned_abs, slice_get}
+use Rattle.ofit_num.specs.declared.limits.TheConstants.{MOST_DEN, MOST_NUM}
 use Rattle.ofit_num.specs.NumberText.{IsWhole, IsSigned}
 use Rattle.ofit_num.specs.Fraction.{Fraction, IsLowest}
 use Rattle.ofit_num.specs.Reduced.{InLimits, Reduces}
@@ -22,23 +23,23 @@ size_fault first second third fault d h =
     (λ z s bad. bad (z.rows, z.weight) (s.count, s.total)) (λ p s l. (record { rows = p.0; weight = p.1 }, record { count = s.0; total = s.1; no_more = d }, λ w. l (w.few, w.light))) h
 
 pub fraction_fault : (second third : List ℕ) (fault : RecordFault)
-    → IsReading {X = ℤ × ℕ} (λ p. IsSigned second p.0 × (IsWhole third p.1 × (1 ≤ p.1))) (λ p. (unsigned_abs p.0 ≤ 10 ^ 21) × (p.1 ≤ 10 ^ 12)) (Err fault)
+    → IsReading {X = ℤ × ℕ} (λ p. IsSigned second p.0 × (IsWhole third p.1 × (1 ≤ p.1))) (λ p. (unsigned_abs p.0 ≤ MOST_NUM) × (p.1 ≤ MOST_DEN)) (Err fault)
     → IsReading {X = Fraction} (λ c. SpellsFraction second third c × (InLimits c → IsLowest c)) (λ c. InLimits c) (Err fault)
 fraction_fault second third fault h =
-    fault_moved (λ (p : ℤ × ℕ). IsSigned second p.0 × (IsWhole third p.1 × (1 ≤ p.1))) (λ (p : ℤ × ℕ). (unsigned_abs p.0 ≤ 10 ^ 21) × (p.1 ≤ 10 ^ 12))
+    fault_moved (λ (p : ℤ × ℕ). IsSigned second p.0 × (IsWhole third p.1 × (1 ≤ p.1))) (λ (p : ℤ × ℕ). (unsigned_abs p.0 ≤ MOST_NUM) × (p.1 ≤ MOST_DEN))
     (λ (c : Fraction). SpellsFraction second third c × (InLimits c → IsLowest c)) (λ (c : Fraction). InLimits c) fault
     (λ c s bad. bad (c.num, c.den) (s.0.numerator, (s.0.denominator, s.0.positive)))
     (λ p s l. (record { num = p.0; den = p.1 }, (record { numerator = s.0; denominator = s.1.0; positive = s.1.1 }, λ w. absurd (l (w.num, w.den))), λ w. l (w.num, w.den))) h
 
 -- two numbers that are in no lowest terms
-pub fraction_bad : (second third : List ℕ) (num : ℤ) (den : ℕ) → IsSigned second num → IsWhole third den → unsigned_abs num ≤ 10 ^ 21 → den ≤ 10 ^ 12 → (IsLowest (record { num = num; den = den }) → ⊥)
+pub fraction_bad : (second third : List ℕ) (num : ℤ) (den : ℕ) → IsSigned second num → IsWhole third den → unsigned_abs num ≤ MOST_NUM → den ≤ MOST_DEN → (IsLowest (record { num = num; den = den }) → ⊥)
     → (c : Fraction) → SpellsFraction second third c × (InLimits c → IsLowest c) → ⊥
 fraction_bad second third num den n d few most higher c s =
     let tops : c.num ≡ num = IsSigned-number second c.num num s.0.numerator n in
     let bottoms : c.den ≡ den = IsWhole-number third c.den den s.0.denominator d in
     let this : Fraction = record { num = num; den = den } in
     let same : c ≡ this = ap (λ (t : ℤ). let f : Fraction = record { num = t; den = c.den } in f) tops ∙ ap (λ (t : ℕ). let f : Fraction = record { num = num; den = t } in f) bottoms in
-    higher (subst IsLowest same (s.1 (record { num = subst (λ (t : ℤ). unsigned_abs t ≤ 10 ^ 21) (sym tops) few; den = subst (λ (t : ℕ). t ≤ 10 ^ 12) (sym bottoms) most })))
+    higher (subst IsLowest same (s.1 (record { num = subst (λ (t : ℤ). unsigned_abs t ≤ MOST_NUM) (sym tops) few; den = subst (λ (t : ℕ). t ≤ MOST_DEN) (sym bottoms) most })))
 
 pub lowest_reduced : (num : ℤ) (den : ℕ) (c : Fraction) → Reduces num (pos den) c → IsLowest (record { num = num; den = den }) → (c.num ≡ num) × (c.den ≡ den)
 lowest_reduced num den c r l =

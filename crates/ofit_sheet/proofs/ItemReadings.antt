@@ -12,7 +12,8 @@ use Rattle.ofit_sheet.specs.declared.item.Item.{Item}
 use Rattle.ofit_sheet.specs.declared.item.Item.TheVariants as it
 use Rattle.ofit_sheet.specs.Kept.{IsSizeInLimits, most_amount}
 use Rattle.ofit_sheet.specs.Reading.{IsReading}
-use Rattle.ofit_sheet.specs.Rules.{values_of, flows_of, leading, IsAllowed, IsWithinLimits, AreGood}
+use Rattle.ofit_sheet.specs.Frame.{AreGood}
+use Rattle.ofit_sheet.specs.Rules.{values_of, flows_of, leading, IsAllowed, IsWithinLimits, sheet_rules}
 use Rattle.ofit_sheet.specs.Spelling.{SpellsBounds, SpellsSize, SpellsValue, SpellsFlow}
 use Rattle.ofit_sheet.specs.Steps.{Follows, IsItem}
 use Rattle.ofit_sheet.specs.Told.{Told, seen, told_of, told_with, place_after}
@@ -81,7 +82,7 @@ module _ (names : List (List ℕ)) (sized : Bool) (items : List Item) (first sec
     no_value (it.Flow low high amount) i h = absurd (let k = i.is_kind in cc)
     no_value it.End i h = absurd (let k = i.is_kind in cc)
 
-    module _ (rows : List (List (List ℕ))) (good : AreGood names sized [] rows items) (led : leading sized ≤ length items) (unflowed : flows_of items ≡ []) where
+    module _ (rows : List (List (List ℕ))) (good : AreGood (sheet_rules names sized) [] rows items) (led : leading sized ≤ length items) (unflowed : flows_of items ≡ []) where
       pub value_stands : (v : ℕ × Fraction) → P-value v → IsItem names sized items kind.Value first second third (it.Value v.0 v.1)
       value_stands v s = record {
         is_kind = refl;

@@ -11,7 +11,7 @@ use Rattle.ofit_sheet.specs.Peaked.{Peaked, IsShaped}
 use Rattle.ofit_sheet.specs.Slots.{Slot, peak_slot, value_slot, side_slot, step_slot, last_slot, end_slot}
 use Rattle.ofit_sheet.specs.PeakedRead.{Item, peak_item, value_item, step_item, end_item, IsPeakedHeader, SpellsPeak, SpellsPlainValue, SpellsStep, SpellsLastStep, SpellsSlot, SpellsNext, peaked_grammar, step_told, side_items, items_of, IsPeakedOf, PeakedRead}
 use Rattle.ofit_sheet.proofs.OneFrame.{one_reading}
-use Rattle.ofit_sheet.proofs.OneReading.{place_one}
+use Rattle.ofit_study.proofs.Places.{named_place}
 
 header_one : (fields : List (List ℕ)) (a b : ℕ) → IsPeakedHeader fields a → IsPeakedHeader fields b → a ≡ b
 header_one fields a b h k =
@@ -35,7 +35,7 @@ module _ (names : List (List ℕ)) (apart : AllPairs (λ a b. a ≢ b) names) wh
   peak_one fields (Some p) (Some q) c d s t =
       let name : t.name ≡ s.name = let e = s.spells in let f = t.spells in cc in
       let text : s.text ≡ t.text = let e = s.spells in let f = t.spells in cc in
-      let places : p ≡ q = place_one names s.name p q apart s.group (t.group ∙ ap (λ (u : List ℕ). Some u) name) in
+      let places : p ≡ q = named_place names s.name p q apart s.group (t.group ∙ ap (λ (u : List ℕ). Some u) name) in
       let costs : c ≡ d = whole_one s.text t.text c d text s.number t.number in
       λ i. peak_item (Some (places i)) (costs i)
 

@@ -1,11 +1,12 @@
 -- A peaked sheet's text is read as that sheet.
-use Rattle.std.proofs.Common.{◌≡◌, ◌≢◌, ℕ, zero, suc, ◌+◌, ◌-◌, ◌<◌, ◌≤◌, ◌^◌, ℤ, pos, List, [], ◌∷◌, ◌++◌, map, length, get_or, Option, Some, None, Ok, inl, refl, sym, ap, subst, ◌∙◌, append-nil, decimal, arith}
+use Rattle.std.proofs.Common.{◌≡◌, ◌≢◌, ℕ, zero, suc, ◌+◌, ◌-◌, ◌<◌, ◌≤◌, ℤ, pos, List, [], ◌∷◌, ◌++◌, map, length, get_or, Option, Some, None, Ok, inl, refl, sym, ap, subst, ◌∙◌, append-nil, decimal, arith}
 use Rattle.std.specs.Prelude.{All, IfSome, MatchOption, slice_get, codes, unsigned_abs, ◌≤ℤ◌}
 use Rattle.std.specs.Fmt.{signed_decimal}
 use Rattle.std.specs.List.{range_with_len, enumerate_from, flat_map}
-use Rattle.std.proofs.lemmas.Int.{ints}
 use Rattle.std.proofs.lemmas.List.Elements.{All-nil, All-cons, All-head, All-tail}
 use Rattle.std.proofs.lemmas.Option.{slice_get-get_or}
+use Rattle.ofit_num.proofs.Quotients.{natural}
+use Rattle.ofit_num.specs.declared.limits.TheConstants.{MOST_UNITS}
 use Rattle.ofit_num.proofs.Numerals.{IsWhole-decimal, IsSigned-decimal, decimal-from_IsWhole}
 use Rattle.ofit_records.specs.Records.{records_of, without_marks}
 use Rattle.ofit_records.specs.Written.{records_text}
@@ -13,7 +14,7 @@ use Rattle.ofit_records.proofs.WrittenText.{read_back_all, no_mark}
 use Rattle.ofit_sheet.specs.declared.peaked.slope.Slope.{Slope}
 use Rattle.ofit_sheet.specs.declared.peaked.slope.Slope.TheVariants.{Rise, Fall}
 use Rattle.ofit_sheet.specs.SheetText.{name_at, end_fields}
-use Rattle.ofit_sheet.specs.Peaked.{Peaked, IsShaped, IsSide, IsInLimits, IsStepInLimits}
+use Rattle.ofit_sheet.specs.Peaked.{Peaked, IsShaped, IsSide, IsInLimits, IsStepInLimits, most_cost}
 use Rattle.ofit_sheet.specs.PeakedText.{peaked_header_fields, peak_fields, peaked_value_fields, value_records, step_fields, side_start, side_records, sides_records, sides_of, peaked_records, peaked_text}
 use Rattle.ofit_sheet.specs.Slots.{Slot, peak_slot, value_slot, side_slot, step_slot, last_slot, end_slot, steps_before_last, side_slots, sides_slots, value_slots, slots}
 use Rattle.ofit_sheet.specs.PeakedRead.{Item, value_item, step_item, end_item, IsPeakedHeader, SpellsPeak, SpellsSlot, step_told, side_items, items_of, PeakedRead}
@@ -35,21 +36,18 @@ no_names (x ∷ names) e = absurd (omega (arith, e))
 zero_text : decimal 0 ≡ codes "0"
 zero_text = sym (decimal-from_IsWhole (codes "0") 0 (omega arith) (inl (record { is_zero = refl; number = refl })))
 
-whole_of : (z : ℤ) → pos 0 ≤ℤ z → z ≡ pos (unsigned_abs z)
-whole_of z l = omega (arith, ints)
-
 module _ (names : List (List ℕ)) where
-  peak_spelled : (at : Option ℕ) (cost : ℕ) → MatchOption at (length names ≡ 0) (λ k. k < length names) → (at ≡ None → cost ≡ 0) → cost ≤ 10 ^ 30 → SpellsPeak names (peak_fields names at cost) at cost
+  peak_spelled : (at : Option ℕ) (cost : ℕ) → MatchOption at (length names ≡ 0) (λ k. k < length names) → (at ≡ None → cost ≡ 0) → cost ≤ most_cost → SpellsPeak names (peak_fields names at cost) at cost
   peak_spelled None cost h free l = record { nothing = no_names names h; free = free refl; spells = refl }
   peak_spelled (Some k) cost h free l = record { name = name_at names k; text = decimal cost; spells = refl; group = name_there names k h; number = IsWhole-decimal cost (omega (arith, l)) }
 
-  values_spelled : (start : ℕ) (values : List ℤ) → start + length values ≤ length names → All (λ v. unsigned_abs v ≤ 10 ^ 9) values
+  values_spelled : (start : ℕ) (values : List ℤ) → start + length values ≤ length names → All (λ v. unsigned_abs v ≤ MOST_UNITS) values
       → AreSpelled names (map value_slot (range_with_len start (length values))) (map (peaked_value_fields names) (enumerate_from start values)) (map value_item values)
   values_spelled start [] l h = tt
   values_spelled start (v ∷ values) l h =
-      let most : unsigned_abs v ≤ 10 ^ 9 = All-head (λ (z : ℤ). unsigned_abs z ≤ 10 ^ 9) v values h in (
+      let most : unsigned_abs v ≤ MOST_UNITS = All-head (λ (z : ℤ). unsigned_abs z ≤ MOST_UNITS) v values h in (
         ((v, refl, record { name = name_at names start; text = signed_decimal v; spells = refl; group = name_there names start (omega (arith, l)); number = IsSigned-decimal v (omega (arith, most)) }), most),
-        values_spelled (start + 1) values (omega (arith, l)) (All-tail (λ (z : ℤ). unsigned_abs z ≤ 10 ^ 9) v values h),
+        values_spelled (start + 1) values (omega (arith, l)) (All-tail (λ (z : ℤ). unsigned_abs z ≤ MOST_UNITS) v values h),
       )
 
   last_spelled : (place : ℕ) (step : ℤ × ℤ) → place < length names → step.1 ≡ pos 0 → IsStepInLimits step → SpellsSlot names (last_slot place) (step_fields names (place, step)) (step_told step)
@@ -80,7 +78,7 @@ module _ (names : List (List ℕ)) where
       group = name_there names place l;
       number = IsSigned-decimal step.0 (omega (arith, h.value));
       whole = IsWhole-decimal (unsigned_abs step.1) (omega (arith, h.amount));
-      is_size = whole_of step.1 e;
+      is_size = natural step.1 e;
     },
   )
 

@@ -1,6 +1,7 @@
 -- What is wrong with the fields of a record of a peaked sheet is wrong with the record.
-use Rattle.std.proofs.Common.{◌≡◌, ℕ, ◌≤◌, ◌^◌, ℤ, pos, List, [], ◌∷◌, Option, Some, None, Err, refl, ap, subst, ◌∙◌}
+use Rattle.std.proofs.Common.{◌≡◌, ℕ, ◌≤◌, ℤ, pos, List, [], ◌∷◌, Option, Some, None, Err, refl, ap, subst, ◌∙◌}
 use Rattle.std.specs.Prelude.{unsigned_abs, slice_get, codes}
+use Rattle.ofit_num.specs.declared.limits.TheConstants.{MOST_UNITS}
 use Rattle.ofit_num.specs.NumberText.{IsWhole, IsSigned}
 use Rattle.ofit_sheet.specs.declared.fault.RecordFault.{RecordFault}
 use Rattle.ofit_sheet.specs.Kept.{most_amount}
@@ -36,24 +37,24 @@ module _ (names : List (List ℕ)) (fields : List (List ℕ)) where
         (λ n s l. (peak_item (Some place) n, (Some place, n, refl, record { name = name; text = text; spells = spells; group = group; number = s }), l)) h
 
   module _ (place : ℕ) (name text : List ℕ) (group : slice_get names place ≡ Some name) where
-    pub value_fault : (last : List ℕ) → fields ≡ codes "value" ∷ name ∷ text ∷ last ∷ [] → last ≡ dash → (fault : RecordFault) → IsReading {X = ℤ} (λ z. IsSigned text z) (λ z. unsigned_abs z ≤ 10 ^ 9) (Err fault)
+    pub value_fault : (last : List ℕ) → fields ≡ codes "value" ∷ name ∷ text ∷ last ∷ [] → last ≡ dash → (fault : RecordFault) → IsReading {X = ℤ} (λ z. IsSigned text z) (λ z. unsigned_abs z ≤ MOST_UNITS) (Err fault)
         → IsReading {X = Item} (SpellsSlot names (value_slot place) fields) IsWithinLimits (Err fault)
     value_fault last spells d fault h =
-        fault_moved (λ (z : ℤ). IsSigned text z) (λ (z : ℤ). unsigned_abs z ≤ 10 ^ 9) (SpellsSlot names (value_slot place) fields) IsWithinLimits fault
+        fault_moved (λ (z : ℤ). IsSigned text z) (λ (z : ℤ). unsigned_abs z ≤ MOST_UNITS) (SpellsSlot names (value_slot place) fields) IsWithinLimits fault
         (λ item s bad. let same : s.2.text ≡ text = (let e = s.2.spells in cc) in bad s.0 (subst (λ (t : List ℕ). IsSigned t s.0) same s.2.number))
         (λ z s l. (value_item z, (z, refl, record { name = name; text = text; spells = spells ∙ ap (λ (t : List ℕ). codes "value" ∷ name ∷ text ∷ t ∷ []) d; group = group; number = s }), l)) h
 
-    pub last_fault : (size : List ℕ) → fields ≡ codes "step" ∷ name ∷ text ∷ size ∷ [] → size ≡ codes "0" → (fault : RecordFault) → IsReading {X = ℤ} (λ z. IsSigned text z) (λ z. unsigned_abs z ≤ 10 ^ 9) (Err fault)
+    pub last_fault : (size : List ℕ) → fields ≡ codes "step" ∷ name ∷ text ∷ size ∷ [] → size ≡ codes "0" → (fault : RecordFault) → IsReading {X = ℤ} (λ z. IsSigned text z) (λ z. unsigned_abs z ≤ MOST_UNITS) (Err fault)
         → IsReading {X = Item} (SpellsSlot names (last_slot place) fields) IsWithinLimits (Err fault)
     last_fault size spells d fault h =
-        fault_moved (λ (z : ℤ). IsSigned text z) (λ (z : ℤ). unsigned_abs z ≤ 10 ^ 9) (SpellsSlot names (last_slot place) fields) IsWithinLimits fault
+        fault_moved (λ (z : ℤ). IsSigned text z) (λ (z : ℤ). unsigned_abs z ≤ MOST_UNITS) (SpellsSlot names (last_slot place) fields) IsWithinLimits fault
         (λ item s bad. let same : s.2.text ≡ text = (let e = s.2.spells in cc) in bad s.0 (subst (λ (t : List ℕ). IsSigned t s.0) same s.2.number))
         (λ z s l. (step_item z (pos 0), (z, refl, record { name = name; text = text; spells = spells ∙ ap (λ (t : List ℕ). codes "step" ∷ name ∷ text ∷ t ∷ []) d; group = group; number = s }), λ w. l w.0)) h
 
     pub step_fault : (size : List ℕ) → fields ≡ codes "step" ∷ name ∷ text ∷ size ∷ [] → (fault : RecordFault)
-        → IsReading {X = ℤ × ℕ} (λ p. IsSigned text p.0 × IsWhole size p.1) (λ p. (unsigned_abs p.0 ≤ 10 ^ 9) × (p.1 ≤ most_amount)) (Err fault) → IsReading {X = Item} (SpellsSlot names (step_slot place) fields) IsWithinLimits (Err fault)
+        → IsReading {X = ℤ × ℕ} (λ p. IsSigned text p.0 × IsWhole size p.1) (λ p. (unsigned_abs p.0 ≤ MOST_UNITS) × (p.1 ≤ most_amount)) (Err fault) → IsReading {X = Item} (SpellsSlot names (step_slot place) fields) IsWithinLimits (Err fault)
     step_fault size spells fault h =
-        fault_moved (λ (p : ℤ × ℕ). IsSigned text p.0 × IsWhole size p.1) (λ (p : ℤ × ℕ). (unsigned_abs p.0 ≤ 10 ^ 9) × (p.1 ≤ most_amount)) (SpellsSlot names (step_slot place) fields) IsWithinLimits fault
+        fault_moved (λ (p : ℤ × ℕ). IsSigned text p.0 × IsWhole size p.1) (λ (p : ℤ × ℕ). (unsigned_abs p.0 ≤ MOST_UNITS) × (p.1 ≤ most_amount)) (SpellsSlot names (step_slot place) fields) IsWithinLimits fault
         (λ item s bad.
         let same : s.3.text ≡ text = (let e = s.3.spells in cc) in
         let sizes : s.3.size_text ≡ size = (let e = s.3.spells in cc) in

@@ -11,9 +11,9 @@ use Rattle.ofit_sheet.specs.declared.peaked.slope.Slope.TheVariants.{Rise, Fall}
 use Rattle.ofit_sheet.specs.Peaked.{Peaked, IsShaped}
 use Rattle.ofit_sheet.specs.PeakedText.{side_start}
 use Rattle.ofit_sheet.specs.Slots.{Slot, peak_slot, value_slot, side_slot, step_slot, last_slot, end_slot, steps_before_last, side_slots, sides_slots, value_slots, slots}
-use Rattle.ofit_sheet.specs.PeakedRead.{Item, IsPeakedHeader, SpellsSlot, SpellsNext, IsWithinLimits, is_end, peaked_grammar, items_of, PeakedRead}
+use Rattle.ofit_sheet.specs.PeakedRead.{Item, IsPeakedHeader, SpellsSlot, SpellsNext, IsWithinLimits, is_end, peaked_rules, peaked_grammar, items_of, PeakedRead}
 use Rattle.ofit_sheet.specs.PeakedSteps.{AreSpelled, Takes, StopsIn, SaysNothing, SaysTooMuch, PartFault, PlacesRead}
-use Rattle.ofit_sheet.specs.Frame.{Grammar, IsGood, AreGood, IsAfterEnd, IsBad, IsTooLarge, StopsAt}
+use Rattle.ofit_sheet.specs.Frame.{Rules, Grammar, IsGood, AreGood, IsAfterEnd, IsBad, IsTooLarge, StopsAt}
 
 abbrev Rows : Type 0
 Rows = List (List (List ℕ))
@@ -101,6 +101,9 @@ module _ (names : List (List ℕ)) (places : ℕ) where
   abbrev g : Grammar ℕ Item
   g = peaked_grammar names
 
+  abbrev rules : Rules Item
+  rules = peaked_rules names
+
   next_slot : (front behind : List Slot) (slot : Slot) (before : List Item) → slots (length names) ≡ front ++ slot ∷ behind → length before ≡ length front → slice_get (slots (length names)) (length before) ≡ Some slot
   next_slot front behind slot before e l = ap (λ (k : ℕ). slice_get (slots (length names)) k) l ∙ ap (λ (t : List Slot). slice_get t (length front)) e ∙ slot_behind front slot behind
 
@@ -122,7 +125,7 @@ module _ (names : List (List ℕ)) (places : ℕ) where
 
   -- records that are what open slots ask for are good
   spelled_good : (front ss behind : List Slot) (rows : Rows) (before items : List Item) → slots (length names) ≡ front ++ (ss ++ behind) → length before ≡ length front → list_any is_end before ≡ false → AreOpen ss → AreSpelled names ss rows items
-      → AreGood g places before rows items
+      → AreGood rules before rows items
   spelled_good front [] behind [] before [] e l o a h = tt
   spelled_good front [] behind [] before (x ∷ items) e l o a h = absurd h
   spelled_good front [] behind (row ∷ rows) before items e l o a h = absurd h
@@ -134,12 +137,12 @@ module _ (names : List (List ℕ)) (places : ℕ) where
         (more_open before x o (open_item names s row x a.0 h.0.0)) a.1 h.1,
   )
 
-  good_then : (before : List Item) (rows more : Rows) (items next : List Item) → AreGood g places before rows items → AreGood g places (before ++ items) more next → AreGood g places before (rows ++ more) (items ++ next)
-  good_then before [] more [] next h k = subst (λ (b : List Item). AreGood g places b more next) (append-nil before) k
+  good_then : (before : List Item) (rows more : Rows) (items next : List Item) → AreGood rules before rows items → AreGood rules (before ++ items) more next → AreGood rules before (rows ++ more) (items ++ next)
+  good_then before [] more [] next h k = subst (λ (b : List Item). AreGood rules b more next) (append-nil before) k
   good_then before [] more (x ∷ items) next h k = absurd h
   good_then before (row ∷ rows) more [] next h k = absurd h
   good_then before (row ∷ rows) more (x ∷ items) next h k =
-      (h.0, good_then (before ++ x ∷ []) rows more items next h.1 (subst (λ (b : List Item). AreGood g places b more next) (sym (append_assoc before (x ∷ []) items)) k))
+      (h.0, good_then (before ++ x ∷ []) rows more items next h.1 (subst (λ (b : List Item). AreGood rules b more next) (sym (append_assoc before (x ∷ []) items)) k))
 
   -- where the last slot is taken
   record Ended (firsts : List Slot) (rows : Rows) (items : List Item) : Type 0 where
@@ -182,19 +185,19 @@ module _ (names : List (List ℕ)) (places : ℕ) where
     whole_ended =
         ap (list_any is_end) parts.told ∙ list_any-append is_end parts.own (parts.item ∷ []) ∙ ap (λ (b : Bool). list_any is_end parts.own || (b || false)) (ap is_end parts.last.0) ∙ or_true (list_any is_end parts.own)
 
-    whole_good : AreGood g places [] rows items
+    whole_good : AreGood rules [] rows items
     whole_good =
         let n = length names in
         let all : slots n ≡ [] ++ (open_slots n ++ end_slot ∷ []) = slots_end n in
         let opened = spelled_open (open_slots n) parts.done parts.own (open_so n) parts.spelled in
         let front = spelled_good [] (open_slots n) (end_slot ∷ []) parts.done [] parts.own all refl refl (open_so n) parts.spelled in
-        let last : IsGood g places parts.own parts.fields parts.item = record {
+        let last : IsGood rules parts.own parts.fields parts.item = record {
           open_yet = opened;
           spells = record { slot = end_slot; next = next_slot (open_slots n) [] end_slot parts.own (slots_end n) (spelled_length (open_slots n) parts.done parts.own parts.spelled).1; spells = parts.last };
           within = subst IsWithinLimits (sym parts.last.0) tt;
         } in
-        subst (λ (t : Rows). AreGood g places [] t items) (sym parts.parted)
-        (subst (λ (t : List Item). AreGood g places [] (parts.done ++ parts.fields ∷ []) t) (sym parts.told) (good_then [] parts.done (parts.fields ∷ []) parts.own (parts.item ∷ []) front (last, tt)))
+        subst (λ (t : Rows). AreGood rules [] t items) (sym parts.parted)
+        (subst (λ (t : List Item). AreGood rules [] (parts.done ++ parts.fields ∷ []) t) (sym parts.told) (good_then [] parts.done (parts.fields ∷ []) parts.own (parts.item ∷ []) front (last, tt)))
 
   module _ (rows : Rows) (first : List (List ℕ)) (mid : Rows) (parted : rows ≡ first ∷ mid) (header : IsPeakedHeader first places) where
     pub whole_read : (x : Peaked) (later : ℕ) → Takes names (slots (length names)) (items_of x) 1 mid later [] → IsShaped (length names) x → x.places ≡ places → PeakedRead names rows (Ok x)
@@ -209,7 +212,7 @@ module _ (names : List (List ℕ)) (places : ℕ) where
           made = record { header = e; told = refl; shaped = shaped };
         }
 
-    pub after_read : (items : List Item) (later at : ℕ) (fields : List (List ℕ)) (more : Rows) → Takes names (slots (length names)) items 1 mid later (fields ∷ more) → at ≡ later + 1 → StopsAt g rows at (IsAfterEnd g)
+    pub after_read : (items : List Item) (later at : ℕ) (fields : List (List ℕ)) (more : Rows) → Takes names (slots (length names)) items 1 mid later (fields ∷ more) → at ≡ later + 1 → StopsAt g rows at IsAfterEnd
     after_read items later at fields more t e = record {
       before = first ∷ t.done;
       fields = fields;
@@ -227,7 +230,7 @@ module _ (names : List (List ℕ)) (places : ℕ) where
       front_open : AreOpen before
       front_open = open_before (open_slots (length names)) before behind slot (open_so (length names)) (sym (slots_end (length names)) ∙ asked)
 
-      front_good : (done : Rows) (items : List Item) → AreSpelled names before done items → AreGood g places [] done items
+      front_good : (done : Rows) (items : List Item) → AreSpelled names before done items → AreGood rules [] done items
       front_good done items h = spelled_good [] before (slot ∷ behind) done [] items asked refl refl front_open h
 
       front_ends : (done : Rows) (items : List Item) → AreSpelled names before done items → list_any is_end items ≡ false
@@ -241,7 +244,7 @@ module _ (names : List (List ℕ)) (places : ℕ) where
       to_slot : (done : Rows) (items : List Item) (fields : List (List ℕ)) (item : Item) → AreSpelled names before done items → SpellsSlot names slot fields item → SpellsNext names items fields item
       to_slot done items fields item h s = record { slot = slot; next = next_slot before behind slot items asked (spelled_length before done items h).1; spells = s }
 
-    stops_so : (F : Slot → List (List ℕ) → Type 0) (at : ℕ) (G : ℕ → List Item → List (List ℕ) → Type 0) (s : StopsIn names (slots (length names)) 1 mid at F) → G places s.items s.fields → StopsAt g rows at G
+    stops_so : (F : Slot → List (List ℕ) → Type 0) (at : ℕ) (G : Rules Item → List Item → List (List ℕ) → Type 0) (s : StopsIn names (slots (length names)) 1 mid at F) → G rules s.items s.fields → StopsAt g rows at G
     stops_so F at G s fault = record {
       before = first ∷ s.done;
       fields = s.fields;
@@ -256,11 +259,11 @@ module _ (names : List (List ℕ)) (places : ℕ) where
 
     pub part_fault : (e : SheetFault) → PartFault names (slots (length names)) 1 mid e → PeakedRead names rows (Err e)
     part_fault fault.BadHeader s = absurd s
-    part_fault (fault.BadRecord at) s = stops_so (SaysNothing names) at (IsBad g) s (record {
+    part_fault (fault.BadRecord at) s = stops_so (SaysNothing names) at IsBad s (record {
       open_yet = front_ends s.before s.behind s.slot s.asked s.done s.items s.spelled;
       breaks = λ item h. s.fault item (at_slot s.before s.behind s.slot s.asked s.done s.items s.fields item s.spelled h);
     })
-    part_fault (fault.NumberTooLarge at) s = stops_so (SaysTooMuch names) at (IsTooLarge g) s (record {
+    part_fault (fault.NumberTooLarge at) s = stops_so (SaysTooMuch names) at IsTooLarge s (record {
       open_yet = front_ends s.before s.behind s.slot s.asked s.done s.items s.spelled;
       item = s.fault.item;
       spells = to_slot s.before s.behind s.slot s.asked s.done s.items s.fields s.fault.item s.spelled s.fault.spells;

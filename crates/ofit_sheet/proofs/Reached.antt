@@ -18,9 +18,10 @@ use Rattle.ofit_sheet.specs.declared.fault.SheetFault.{SheetFault}
 use Rattle.ofit_sheet.specs.declared.fault.SheetFault.TheVariants as fault
 use Rattle.ofit_sheet.specs.Kept.{IsSizeInLimits, IsFractionInLimits, ArePartsOfSheet, most_amount}
 use Rattle.ofit_sheet.specs.Parts.{sheet_of}
-use Rattle.ofit_sheet.specs.Rules.{value_in, flow_in, values_of, flows_of, IsGood, AreGood}
+use Rattle.ofit_sheet.specs.Frame.{IsGood, AreGood, Rules, StopsAt, HasBadHeader}
+use Rattle.ofit_sheet.specs.Rules.{value_in, flow_in, values_of, flows_of, sheet_rules}
 use Rattle.ofit_sheet.specs.Spelling.{IsHeader}
-use Rattle.ofit_sheet.specs.SheetRead.{bounds_in, size_in, first_bounds, first_size, settings_of, sheet_spelled, StopsAt, HasBadHeader, SheetRead}
+use Rattle.ofit_sheet.specs.SheetRead.{bounds_in, size_in, first_bounds, first_size, settings_of, sheet_spelled, sheet_grammar, SheetRead}
 use Rattle.ofit_sheet.specs.Steps.{StopsBehind, HeaderRead, RestRead}
 use Rattle.ofit_sheet.specs.Told.{Told, seen, told_of}
 use Rattle.ofit_sheet.proofs.Keeping.{fits_if}
@@ -37,31 +38,31 @@ one_longer (Some y) xs n h = omega (arith, h)
 
 module _ (names : List (List ℕ)) (sized : Bool) where
   -- what each good record tells is so of all that they tell
-  pub good_told : {X : Type 0} (f : Item → Option X) (P : X → Type 0) → ((before : List Item) (fields : List (List ℕ)) (item : Item) → IsGood names sized before fields item → IfSome (f item) P)
-      → (before : List Item) (rows : List (List (List ℕ))) (items : List Item) → AreGood names sized before rows items → All P (filter_map f items)
+  pub good_told : {X : Type 0} (f : Item → Option X) (P : X → Type 0) → ((before : List Item) (fields : List (List ℕ)) (item : Item) → IsGood (sheet_rules names sized) before fields item → IfSome (f item) P)
+      → (before : List Item) (rows : List (List (List ℕ))) (items : List Item) → AreGood (sheet_rules names sized) before rows items → All P (filter_map f items)
   good_told f P each before [] [] g = All-nil P
   good_told f P each before [] (x ∷ items) g = absurd g
   good_told f P each before (row ∷ rows) [] g = absurd g
   good_told f P each before (row ∷ rows) (x ∷ items) g = put_before P (f x) (filter_map f items) (each before row x g.0) (good_told f P each (before ++ x ∷ []) rows items g.1)
 
-  bounds_told : (before : List Item) (fields : List (List ℕ)) (item : Item) → IsGood names sized before fields item → IfSome (bounds_in item) (λ b. IsBoundInLimits b.0 × IsBoundInLimits b.1 × InOrder b.0 b.1)
-  bounds_told before fields (it.Bounds lo hi) g = (g.within.0, g.within.1, g.allowed.1)
+  bounds_told : (before : List Item) (fields : List (List ℕ)) (item : Item) → IsGood (sheet_rules names sized) before fields item → IfSome (bounds_in item) (λ b. IsBoundInLimits b.0 × IsBoundInLimits b.1 × InOrder b.0 b.1)
+  bounds_told before fields (it.Bounds lo hi) g = (g.within.0, g.within.1, g.spells.1.1)
   bounds_told before fields (it.Size z) g = tt
   bounds_told before fields (it.Value p v) g = tt
   bounds_told before fields (it.Flow low high amount) g = tt
   bounds_told before fields it.End g = tt
 
-  size_told : (before : List Item) (fields : List (List ℕ)) (item : Item) → IsGood names sized before fields item → IfSome (size_in item) (λ z. IsSizeInLimits z.rows z.weight)
+  size_told : (before : List Item) (fields : List (List ℕ)) (item : Item) → IsGood (sheet_rules names sized) before fields item → IfSome (size_in item) (λ z. IsSizeInLimits z.rows z.weight)
   size_told before fields (it.Bounds lo hi) g = tt
   size_told before fields (it.Size z) g = g.within
   size_told before fields (it.Value p v) g = tt
   size_told before fields (it.Flow low high amount) g = tt
   size_told before fields it.End g = tt
 
-  value_told : (before : List Item) (fields : List (List ℕ)) (item : Item) → IsGood names sized before fields item → IfSome (value_in item) (λ e. (e.0 < length names) × IsFractionInLimits e.1)
+  value_told : (before : List Item) (fields : List (List ℕ)) (item : Item) → IsGood (sheet_rules names sized) before fields item → IfSome (value_in item) (λ e. (e.0 < length names) × IsFractionInLimits e.1)
   value_told before fields (it.Bounds lo hi) g = tt
   value_told before fields (it.Size z) g = tt
-  value_told before fields (it.Value p v) g = (slice_get_within names p _ g.spells.spelled.group, record { lowest = g.allowed.1.lowest g.within; limits = g.within })
+  value_told before fields (it.Value p v) g = (slice_get_within names p _ g.spells.0.spelled.group, record { lowest = g.spells.1.1.lowest g.within; limits = g.within })
   value_told before fields (it.Flow low high amount) g = tt
   value_told before fields it.End g = tt
 
@@ -70,12 +71,12 @@ module _ (names : List (List ℕ)) (sized : Bool) where
       let size : unsigned_abs z ≡ n = ap unsigned_abs e in
       subst (λ (t : ℤ). (pos 1 ≤ℤ t) × (t ≤ℤ pos most_amount)) (sym e) (omega (arith, ints, l), omega (arith, ints, m, size))
 
-  flow_told : (before : List Item) (fields : List (List ℕ)) (item : Item) → IsGood names sized before fields item → IfSome (flow_in item) (λ f. ((f.0 < length names) × (f.1 < length names)) × ((pos 1 ≤ℤ f.2) × (f.2 ≤ℤ pos most_amount)))
+  flow_told : (before : List Item) (fields : List (List ℕ)) (item : Item) → IsGood (sheet_rules names sized) before fields item → IfSome (flow_in item) (λ f. ((f.0 < length names) × (f.1 < length names)) × ((pos 1 ≤ℤ f.2) × (f.2 ≤ℤ pos most_amount)))
   flow_told before fields (it.Bounds lo hi) g = tt
   flow_told before fields (it.Size z) g = tt
   flow_told before fields (it.Value p v) g = tt
   flow_told before fields (it.Flow low high amount) g =
-      let s = g.spells.spelled in
+      let s = g.spells.0.spelled in
       ((slice_get_within names low _ s.low_group, slice_get_within names high _ s.high_group), from_one amount s.size s.is_size s.positive g.within)
   flow_told before fields it.End g = tt
 
@@ -91,7 +92,7 @@ module _ (names : List (List ℕ)) (sized : Bool) where
   shorter f [] = omega arith
   shorter f (x ∷ items) = omega (arith, one_longer (f x) (filter_map f items) (length items) (shorter f items))
 
-  module _ (rows : List (List (List ℕ))) (items : List Item) (good : AreGood names sized [] rows items) where
+  module _ (rows : List (List (List ℕ))) (items : List Item) (good : AreGood (sheet_rules names sized) [] rows items) where
     pub parts_so : ArePartsOfSheet (first_size items) (values_of items) (flows_of items)
     parts_so = record {
       sized = first_so (λ (z : size.Size). IsSizeInLimits z.rows z.weight) (filter_map size_in items) (good_told size_in (λ z. IsSizeInLimits z.rows z.weight) size_told [] rows items good);
@@ -128,8 +129,8 @@ module _ (names : List (List ℕ)) (sized : Bool) where
         (good_told flow_in (λ f. ((f.0 < length names) × (f.1 < length names)) × ((pos 1 ≤ℤ f.2) × (f.2 ≤ℤ pos most_amount))) flow_told [] rows items good))
 
 -- the first fault behind a header is that of the whole
-stops_at : (names : List (List ℕ)) (rows others : List (List (List ℕ))) (first : List (List ℕ)) (head : Header) (number : ℕ) (IsFault : List (List ℕ) → Bool → List Item → List (List ℕ) → Type 0)
-    → rows ≡ first ∷ others → IsHeader first head → StopsBehind names head.sized others number IsFault → StopsAt names rows number IsFault
+stops_at : (names : List (List ℕ)) (rows others : List (List (List ℕ))) (first : List (List ℕ)) (head : Header) (number : ℕ) (IsFault : Rules Item → List Item → List (List ℕ) → Type 0)
+    → rows ≡ first ∷ others → IsHeader first head → StopsBehind names head.sized others number IsFault → StopsAt (sheet_grammar names) rows number IsFault
 stops_at names rows others first head number IsFault e h s = record {
   before = first ∷ s.before;
   fields = s.fields;
@@ -155,7 +156,7 @@ rest_fault names rows others first head fault.Memory e h r = tt
 pub spelled_by : (head : Header) (items : List Item) (draft : Draft) → seen draft ≡ told_of items → sheet_of (settings_of head draft.bounds) draft.size draft.values.items draft.flows.items ≡ sheet_spelled head items
 spelled_by head items draft e = ap (λ (t : Told). sheet_of (settings_of head t.bounds) t.size t.values t.flows) e
 
-pub header_read : (rows left : List (List (List ℕ))) (first : List (List ℕ)) → rows ≡ first ∷ left → ((head : Header) → IsHeader first head → ⊥) → HasBadHeader rows
+pub header_read : (rows left : List (List (List ℕ))) (first : List (List ℕ)) → rows ≡ first ∷ left → ((head : Header) → IsHeader first head → ⊥) → HasBadHeader IsHeader rows
 header_read rows left first e no_head f others head other h =
     let same : f ≡ first = let both : f ∷ others ≡ first ∷ left = sym other ∙ e in cc in
     no_head head (subst (λ (t : List (List ℕ)). IsHeader t head) same h)

@@ -25,8 +25,9 @@ use Rattle.ofit_sheet.specs.Kept.{IsKept, IsSizeInLimits, IsAmountInLimits, IsFr
 use Rattle.ofit_sheet.specs.Parts.{size_of, entry_of, flow_of}
 use Rattle.ofit_sheet.specs.SheetText.{version_text, header_fields, bounds_fields, size_fields, size_records, name_at, value_fields, flow_fields, end_fields, sheet_records, sheet_text}
 use Rattle.ofit_sheet.specs.Spelling.{version_of, IsHeader, IsBoundText}
-use Rattle.ofit_sheet.specs.Rules.{value_in, flow_in, is_end, values_of, flows_of, has_end, leading, IsGood, AreGood}
-use Rattle.ofit_sheet.specs.SheetRead.{size_in, first_size, sheet_spelled, HasSheet, SheetRead}
+use Rattle.ofit_sheet.specs.Frame.{IsGood, AreGood}
+use Rattle.ofit_sheet.specs.Rules.{value_in, flow_in, is_end, values_of, flows_of, has_end, leading, sheet_rules}
+use Rattle.ofit_sheet.specs.SheetRead.{size_in, first_size, sheet_spelled, SheetRead}
 use Rattle.ofit_sheet.proofs.Rising.{IsRising, rising_from_none}
 use Rattle.ofit_sheet.proofs.Telling.{none_more, one_more, same_end}
 
@@ -54,13 +55,13 @@ abbrev items_of : num.Sheet Settings → List Item
 items_of x = ((front_of x ++ map value_item x.values) ++ map flow_item x.flows) ++ it.End ∷ []
 
 -- good records behind good records
-good_append : (names : List (List ℕ)) (sized : Bool) (before : List Item) (rows more : List (List (List ℕ))) (items next : List Item) → AreGood names sized before rows items → AreGood names sized (before ++ items) more next
-    → AreGood names sized before (rows ++ more) (items ++ next)
-good_append names sized before [] more [] next g h = subst (λ (b : List Item). AreGood names sized b more next) (append-nil before) h
+good_append : (names : List (List ℕ)) (sized : Bool) (before : List Item) (rows more : List (List (List ℕ))) (items next : List Item) → AreGood (sheet_rules names sized) before rows items → AreGood (sheet_rules names sized) (before ++ items) more next
+    → AreGood (sheet_rules names sized) before (rows ++ more) (items ++ next)
+good_append names sized before [] more [] next g h = subst (λ (b : List Item). AreGood (sheet_rules names sized) b more next) (append-nil before) h
 good_append names sized before [] more (x ∷ items) next g h = absurd g
 good_append names sized before (row ∷ rows) more [] next g h = absurd g
 good_append names sized before (row ∷ rows) more (x ∷ items) next g h =
-    (g.0, good_append names sized (before ++ x ∷ []) rows more items next g.1 (subst (λ (b : List Item). AreGood names sized b more next) (sym (append_assoc before (x ∷ []) items)) h))
+    (g.0, good_append names sized (before ++ x ∷ []) rows more items next g.1 (subst (λ (b : List Item). AreGood (sheet_rules names sized) b more next) (sym (append_assoc before (x ∷ []) items)) h))
 
 -- no end stands yet, and what leads is read
 record Open (sized : Bool) (before : List Item) : Type 0 where
@@ -87,36 +88,40 @@ bound_spelled (Some z) l = IsSigned-decimal z (omega (arith, l))
 name_there : (names : List (List ℕ)) (p : ℕ) → p < length names → slice_get names p ≡ Some (name_at names p)
 name_there names p l = slice_get-get_or names p [] l
 
-bounds_good : (names : List (List ℕ)) (sized : Bool) (settings : Settings) → InLimits settings → IsGood names sized [] (bounds_fields settings) (it.Bounds settings.lo settings.hi)
+bounds_good : (names : List (List ℕ)) (sized : Bool) (settings : Settings) → InLimits settings → IsGood (sheet_rules names sized) [] (bounds_fields settings) (it.Bounds settings.lo settings.hi)
 bounds_good names sized settings l = record {
   open_yet = refl;
-  spells = record {
-    first = bound_text settings.lo;
-    second = bound_text settings.hi;
-    third = codes "-";
-    four = refl;
-    spelled = record { low = bound_spelled settings.lo l.lo; high = bound_spelled settings.hi l.hi; no_more = refl };
-  };
-  allowed = (refl, l.order);
+  spells = (
+    record {
+      first = bound_text settings.lo;
+      second = bound_text settings.hi;
+      third = codes "-";
+      four = refl;
+      spelled = record { low = bound_spelled settings.lo l.lo; high = bound_spelled settings.hi l.hi; no_more = refl };
+    },
+    (refl, l.order),
+  );
   within = (l.lo, l.hi);
 }
 
 front_good : (names : List (List ℕ)) (settings : Settings) (z : Option num.Size) → InLimits settings → IfSome z (λ t. IsSizeInLimits t.rows t.weight)
-    → AreGood names (sized_of z) [] (bounds_fields settings ∷ size_records z) (it.Bounds settings.lo settings.hi ∷ size_items z)
+    → AreGood (sheet_rules names (sized_of z)) [] (bounds_fields settings ∷ size_records z) (it.Bounds settings.lo settings.hi ∷ size_items z)
 front_good names settings None l h = (bounds_good names false settings l, tt)
 front_good names settings (Some z) l h = (
   bounds_good names true settings l,
   (
     record {
       open_yet = refl;
-      spells = record {
-        first = decimal z.rows;
-        second = decimal z.weight;
-        third = codes "-";
-        four = refl;
-        spelled = record { count = IsWhole-decimal z.rows (omega (arith, h.few)); total = IsWhole-decimal z.weight (omega (arith, h.light)); no_more = refl };
-      };
-      allowed = (refl, refl);
+      spells = (
+        record {
+          first = decimal z.rows;
+          second = decimal z.weight;
+          third = codes "-";
+          four = refl;
+          spelled = record { count = IsWhole-decimal z.rows (omega (arith, h.few)); total = IsWhole-decimal z.weight (omega (arith, h.light)); no_more = refl };
+        },
+        (refl, refl),
+      );
       within = record { few = h.few; light = h.light };
     },
     tt,
@@ -128,25 +133,27 @@ front_open settings None = record { open_yet = refl; led = omega arith }
 front_open settings (Some z) = record { open_yet = refl; led = omega arith }
 
 module _ (names : List (List ℕ)) (sized : Bool) where
-  value_good : (before : List Item) (e : num.Entry) → Open sized before → flows_of before ≡ [] → All (λ v. v.0 < e.place) (values_of before) → e.place < length names → IsFractionInLimits e.value → IsGood names sized before (value_fields names e) (value_item e)
+  value_good : (before : List Item) (e : num.Entry) → Open sized before → flows_of before ≡ [] → All (λ v. v.0 < e.place) (values_of before) → e.place < length names → IsFractionInLimits e.value → IsGood (sheet_rules names sized) before (value_fields names e) (value_item e)
   value_good before e o unflowed rises inside f = record {
     open_yet = o.open_yet;
-    spells = record {
-      first = name_at names e.place;
-      second = signed_decimal e.value.num;
-      third = decimal e.value.den;
-      four = refl;
-      spelled = record {
-        group = name_there names e.place inside;
-        fraction = record { numerator = IsSigned-decimal e.value.num (omega (arith, f.limits.num)); denominator = IsWhole-decimal e.value.den (omega (arith, f.limits.den)); positive = f.lowest.den };
-      };
-    };
-    allowed = (o.led, record { no_flow = unflowed; rises = rises; lowest = λ l. f.lowest });
+    spells = (
+      record {
+        first = name_at names e.place;
+        second = signed_decimal e.value.num;
+        third = decimal e.value.den;
+        four = refl;
+        spelled = record {
+          group = name_there names e.place inside;
+          fraction = record { numerator = IsSigned-decimal e.value.num (omega (arith, f.limits.num)); denominator = IsWhole-decimal e.value.den (omega (arith, f.limits.den)); positive = f.lowest.den };
+        };
+      },
+      (o.led, record { no_flow = unflowed; rises = rises; lowest = λ l. f.lowest }),
+    );
     within = f.limits;
   }
 
   values_good : (before : List Item) (es : List num.Entry) (least : ℕ) → Open sized before → flows_of before ≡ [] → ((p : ℕ) → least ≤ p → All (λ v. v.0 < p) (values_of before)) → IsRising (λ (e : num.Entry). e.place) least es
-      → All (λ e. e.place < length names) es → All (λ e. IsFractionInLimits e.value) es → AreGood names sized before (map (value_fields names) es) (map value_item es)
+      → All (λ e. e.place < length names) es → All (λ e. IsFractionInLimits e.value) es → AreGood (sheet_rules names sized) before (map (value_fields names) es) (map value_item es)
   values_good before [] least o unflowed below r inside f = tt
   values_good before (e ∷ es) least o unflowed below r inside f =
       let item : Item = value_item e in
@@ -159,28 +166,30 @@ module _ (names : List (List ℕ)) (sized : Bool) where
             (All-tail (λ (t : num.Entry). t.place < length names) e es inside) (All-tail (λ (t : num.Entry). IsFractionInLimits t.value) e es f),
       )
 
-  flow_good : (before : List Item) (f : Flow) → Open sized before → (f.low < length names) × (f.high < length names) → IsAmountInLimits f.amount → IsGood names sized before (flow_fields names f) (flow_item f)
+  flow_good : (before : List Item) (f : Flow) → Open sized before → (f.low < length names) × (f.high < length names) → IsAmountInLimits f.amount → IsGood (sheet_rules names sized) before (flow_fields names f) (flow_item f)
   flow_good before f o ends a = record {
     open_yet = o.open_yet;
-    spells = record {
-      first = name_at names f.low;
-      second = name_at names f.high;
-      third = decimal f.amount;
-      four = refl;
-      spelled = record {
-        low_group = name_there names f.low ends.0;
-        high_group = name_there names f.high ends.1;
-        size = f.amount;
-        whole = IsWhole-decimal f.amount (omega (arith, a.most));
-        positive = a.least;
-        is_size = refl;
-      };
-    };
-    allowed = o.led;
+    spells = (
+      record {
+        first = name_at names f.low;
+        second = name_at names f.high;
+        third = decimal f.amount;
+        four = refl;
+        spelled = record {
+          low_group = name_there names f.low ends.0;
+          high_group = name_there names f.high ends.1;
+          size = f.amount;
+          whole = IsWhole-decimal f.amount (omega (arith, a.most));
+          positive = a.least;
+          is_size = refl;
+        };
+      },
+      o.led,
+    );
     within = a.most;
   }
 
-  flows_good : (before : List Item) (fs : List Flow) → Open sized before → All (λ f. (f.low < length names) × (f.high < length names)) fs → All (λ f. IsAmountInLimits f.amount) fs → AreGood names sized before (map (flow_fields names) fs) (map flow_item fs)
+  flows_good : (before : List Item) (fs : List Flow) → Open sized before → All (λ f. (f.low < length names) × (f.high < length names)) fs → All (λ f. IsAmountInLimits f.amount) fs → AreGood (sheet_rules names sized) before (map (flow_fields names) fs) (map flow_item fs)
   flows_good before [] o ends a = tt
   flows_good before (f ∷ fs) o ends a = (
     flow_good before f o (All-head (λ (t : Flow). (t.low < length names) × (t.high < length names)) f fs ends) (All-head (λ (t : Flow). IsAmountInLimits t.amount) f fs a),
@@ -188,12 +197,11 @@ module _ (names : List (List ℕ)) (sized : Bool) where
         (All-tail (λ (t : Flow). (t.low < length names) × (t.high < length names)) f fs ends) (All-tail (λ (t : Flow). IsAmountInLimits t.amount) f fs a),
   )
 
-  end_good : (before : List Item) → Open sized before → AreGood names sized before (end_fields ∷ []) (it.End ∷ [])
+  end_good : (before : List Item) → Open sized before → AreGood (sheet_rules names sized) before (end_fields ∷ []) (it.End ∷ [])
   end_good before o = (
     record {
       open_yet = o.open_yet;
-      spells = record { first = codes "-"; second = codes "-"; third = codes "-"; four = refl; spelled = record { nothing = refl; no_more = refl; no_last = refl } };
-      allowed = o.led;
+      spells = (record { first = codes "-"; second = codes "-"; third = codes "-"; four = refl; spelled = record { nothing = refl; no_more = refl; no_last = refl } }, o.led);
       within = tt;
     },
     tt,
@@ -208,7 +216,7 @@ front_flows settings None = refl
 front_flows settings (Some z) = refl
 
 all_good : (names : List (List ℕ)) (x : num.Sheet Settings) → num.FitsCount (length names) x → IsKept x
-    → AreGood names (sized_of x.size) [] (((((bounds_fields x.settings ∷ size_records x.size) ++ map (value_fields names) x.values) ++ map (flow_fields names) x.flows) ++ end_fields ∷ [])) (items_of x)
+    → AreGood (sheet_rules names (sized_of x.size)) [] (((((bounds_fields x.settings ∷ size_records x.size) ++ map (value_fields names) x.values) ++ map (flow_fields names) x.flows) ++ end_fields ∷ [])) (items_of x)
 all_good names x fits kept =
     let sized = sized_of x.size in
     let open0 = front_open x.settings x.size in
@@ -301,13 +309,13 @@ ended before = list_any-append is_end before (it.End ∷ []) ∙ or_true (has_en
   or_true true = refl
   or_true false = refl
 
-has_sheet : (names : List (List ℕ)) (x : num.Sheet Settings) → num.FitsCount (length names) x → IsKept x → HasSheet names (sheet_records names x) x
+has_sheet : (names : List (List ℕ)) (x : num.Sheet Settings) → num.FitsCount (length names) x → IsKept x → SheetRead names (sheet_records names x) (Ok x)
 has_sheet names x fits kept = record {
   head = head_of x;
   items = items_of x;
   reads = record { first = header_fields x; others = bounds_fields x.settings ∷ (size_records x.size ++ map (value_fields names) x.values ++ map (flow_fields names) x.flows ++ end_fields ∷ []); parted = refl; header = header_good x kept; good = all_good names x fits kept };
   ended = ended ((front_of x ++ map value_item x.values) ++ map flow_item x.flows);
-  sheet = sheet_same x;
+  made = sheet_same x;
 }
 
 -- each record has a field
@@ -340,4 +348,4 @@ unmarked names x = no_mark 111 _ (λ e. absurd (omega (arith, e)))
 
 pub sheet_read_back : (names : List (List ℕ)) (x : num.Sheet Settings) → num.FitsCount (length names) x → IsKept x → SheetRead names (records_of (sheet_text names x)) (Ok x)
 sheet_read_back names x fits kept =
-    subst (λ (rows : List (List (List ℕ))). HasSheet names rows x) (sym (read_back_all (sheet_records names x) (fields_there names x) (unmarked names x))) (has_sheet names x fits kept)
+    subst (λ (rows : List (List (List ℕ))). SheetRead names rows (Ok x)) (sym (read_back_all (sheet_records names x) (fields_there names x) (unmarked names x))) (has_sheet names x fits kept)

@@ -1,6 +1,7 @@
 -- Readings of one thing made into readings of another.
-use Rattle.std.proofs.Common.{◌≡◌, ℕ, zero, suc, ◌≤◌, ◌^◌, ℤ, List, Option, Some, None, Result, Ok, Err, arith}
+use Rattle.std.proofs.Common.{◌≡◌, ℕ, zero, suc, ◌≤◌, ℤ, List, Option, Some, None, Result, Ok, Err, arith}
 use Rattle.std.specs.Prelude.{unsigned_abs, codes}
+use Rattle.ofit_num.specs.declared.limits.TheConstants.{MOST_UNITS}
 use Rattle.ofit_num.specs.NumberText.{IsWhole, IsSigned}
 use Rattle.ofit_study.specs.Settings.{IsBoundInLimits}
 use Rattle.ofit_sheet.specs.declared.fault.RecordFault.{RecordFault}
@@ -32,9 +33,9 @@ pub fault_moved : {X Y : Type 0} (P W : X → Type 0) (Q V : Y → Type 0) (faul
 fault_moved P W Q V Bad f g h = λ y q. f y q h
 fault_moved P W Q V TooLarge f g h = g h.0 h.1 h.2
 
-pub bound_fault : (text : List ℕ) (fault : RecordFault) → (text ≡ codes "none" → ⊥) → IsReading {X = ℤ} (λ z. IsSigned text z) (λ z. unsigned_abs z ≤ 10 ^ 9) (Err fault) → IsReading {X = Option ℤ} (λ b. IsBoundText text b) (λ b. IsBoundInLimits b) (Err fault)
+pub bound_fault : (text : List ℕ) (fault : RecordFault) → (text ≡ codes "none" → ⊥) → IsReading {X = ℤ} (λ z. IsSigned text z) (λ z. unsigned_abs z ≤ MOST_UNITS) (Err fault) → IsReading {X = Option ℤ} (λ b. IsBoundText text b) (λ b. IsBoundInLimits b) (Err fault)
 bound_fault text fault n h =
-    fault_moved (λ (z : ℤ). IsSigned text z) (λ (z : ℤ). unsigned_abs z ≤ 10 ^ 9) (λ (b : Option ℤ). IsBoundText text b) (λ (b : Option ℤ). IsBoundInLimits b) fault none_is (λ z s l. (Some z, s, l)) h
+    fault_moved (λ (z : ℤ). IsSigned text z) (λ (z : ℤ). unsigned_abs z ≤ MOST_UNITS) (λ (b : Option ℤ). IsBoundText text b) (λ (b : Option ℤ). IsBoundInLimits b) fault none_is (λ z s l. (Some z, s, l)) h
   where
     none_is : (b : Option ℤ) → IsBoundText text b → ((z : ℤ) → IsSigned text z → ⊥) → ⊥
     none_is None q f = n q

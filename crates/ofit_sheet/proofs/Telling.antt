@@ -8,7 +8,8 @@ use Rattle.ofit_num.specs.Fraction.{Fraction}
 use Rattle.ofit_sheet.specs.declared.size.Size as size
 use Rattle.ofit_sheet.specs.declared.item.Item.{Item}
 use Rattle.ofit_sheet.specs.declared.item.Item.TheVariants as it
-use Rattle.ofit_sheet.specs.Rules.{value_in, flow_in, is_end, values_of, has_end, IsAllowed, IsGood, AreGood}
+use Rattle.ofit_sheet.specs.Frame.{IsGood, AreGood}
+use Rattle.ofit_sheet.specs.Rules.{value_in, flow_in, is_end, values_of, has_end, IsAllowed, sheet_rules}
 use Rattle.ofit_sheet.specs.SheetRead.{bounds_in, size_in}
 use Rattle.ofit_sheet.specs.Told.{Told, place_after, told_of, told_with}
 use Rattle.ofit_sheet.proofs.Rising.{IsRising}
@@ -56,15 +57,15 @@ counted : (items : List Item) (item : Item) → length (items ++ item ∷ []) �
 counted items item = length-append items (item ∷ [])
 
 -- the records before the second tell no size
-first_is_bounds : (names : List (List ℕ)) (sized : Bool) (rows : List (List (List ℕ))) (item : Item) (items : List Item) → AreGood names sized [] rows (item ∷ items) → size_in item ≡ None
+first_is_bounds : (names : List (List ℕ)) (sized : Bool) (rows : List (List (List ℕ))) (item : Item) (items : List Item) → AreGood (sheet_rules names sized) [] rows (item ∷ items) → size_in item ≡ None
 first_is_bounds names sized [] item items g = absurd g
 first_is_bounds names sized (row ∷ rows) (it.Bounds lo hi) items g = refl
-first_is_bounds names sized (row ∷ rows) (it.Size z) items g = absurd (omega (arith, g.0.allowed.1))
+first_is_bounds names sized (row ∷ rows) (it.Size z) items g = absurd (omega (arith, g.0.spells.1.1))
 first_is_bounds names sized (row ∷ rows) (it.Value p v) items g = refl
 first_is_bounds names sized (row ∷ rows) (it.Flow low high amount) items g = refl
 first_is_bounds names sized (row ∷ rows) it.End items g = refl
 
-no_size_yet : (names : List (List ℕ)) (sized : Bool) (rows : List (List (List ℕ))) (items : List Item) → AreGood names sized [] rows items → length items ≡ 1 → filter_map size_in items ≡ []
+no_size_yet : (names : List (List ℕ)) (sized : Bool) (rows : List (List (List ℕ))) (items : List Item) → AreGood (sheet_rules names sized) [] rows items → length items ≡ 1 → filter_map size_in items ≡ []
 no_size_yet names sized rows [] g l = refl
 no_size_yet names sized rows (item ∷ []) g l = none_more size_in [] item (first_is_bounds names sized rows item [] g)
 no_size_yet names sized rows (item ∷ next ∷ items) g l = absurd (omega (arith, l))
@@ -73,7 +74,7 @@ told_same : (s t : Told) → s.bounds ≡ t.bounds → s.size ≡ t.size → s.v
 told_same s t a b c d e f g = λ i. record { bounds = a i; size = b i; values = c i; flows = d i; count = e i; least = f i; has_ended = g i }
 
 -- what is told with one record more that may stand there
-pub told-push : (names : List (List ℕ)) (sized : Bool) (rows : List (List (List ℕ))) (items : List Item) (item : Item) → AreGood names sized [] rows items → IsAllowed sized items item → told_of (items ++ item ∷ []) ≡ told_with (told_of items) item
+pub told-push : (names : List (List ℕ)) (sized : Bool) (rows : List (List (List ℕ))) (items : List Item) (item : Item) → AreGood (sheet_rules names sized) [] rows items → IsAllowed sized items item → told_of (items ++ item ∷ []) ≡ told_with (told_of items) item
 told-push names sized rows items (it.Bounds lo hi) g a =
     let x : Item = it.Bounds lo hi in
     let flat : filter_map bounds_in items ≡ [] = ap (filter_map bounds_in) a.0 in
@@ -109,7 +110,7 @@ module _ (names : List (List ℕ)) (sized : Bool) where
   kept_place : (before : List Item) (item : Item) (rest : List (ℕ × Fraction)) → value_in item ≡ None → IsRising place (place_after 0 (values_of (before ++ item ∷ []))) rest → IsRising place (place_after 0 (values_of before)) rest
   kept_place before item rest e h = subst (λ (l : List (ℕ × Fraction)). IsRising place (place_after 0 l) rest) (none_more value_in before item e) h
 
-  pub good_rising : (before : List Item) (rows : List (List (List ℕ))) (items : List Item) → AreGood names sized before rows items → IsRising place (place_after 0 (values_of before)) (values_of items)
+  pub good_rising : (before : List Item) (rows : List (List (List ℕ))) (items : List Item) → AreGood (sheet_rules names sized) before rows items → IsRising place (place_after 0 (values_of before)) (values_of items)
   good_rising before [] [] g = tt
   good_rising before [] (item ∷ items) g = absurd g
   good_rising before (row ∷ rows) [] g = absurd g
@@ -117,19 +118,19 @@ module _ (names : List (List ℕ)) (sized : Bool) where
   good_rising before (row ∷ rows) (it.Size z ∷ items) g = kept_place before (it.Size z) (values_of items) refl (good_rising (before ++ it.Size z ∷ []) rows items g.1)
   good_rising before (row ∷ rows) (it.Value p v ∷ items) g =
       let next : place_after 0 (values_of (before ++ it.Value p v ∷ [])) ≡ p + 1 = ap (place_after 0) (one_more value_in before (it.Value p v) (p, v) refl) ∙ place_after-push 0 (values_of before) (p, v) in
-      (next_place 0 (values_of before) p (omega arith) g.0.allowed.1.rises, subst (λ (n : ℕ). IsRising place n (values_of items)) next (good_rising (before ++ it.Value p v ∷ []) rows items g.1))
+      (next_place 0 (values_of before) p (omega arith) g.0.spells.1.1.rises, subst (λ (n : ℕ). IsRising place n (values_of items)) next (good_rising (before ++ it.Value p v ∷ []) rows items g.1))
   good_rising before (row ∷ rows) (it.Flow low high amount ∷ items) g = kept_place before (it.Flow low high amount) (values_of items) refl (good_rising (before ++ it.Flow low high amount ∷ []) rows items g.1)
   good_rising before (row ∷ rows) (it.End ∷ items) g = kept_place before it.End (values_of items) refl (good_rising (before ++ it.End ∷ []) rows items g.1)
 
-  pub good-push : (before : List Item) (rows : List (List (List ℕ))) (items : List Item) (fields : List (List ℕ)) (item : Item) → AreGood names sized before rows items → IsGood names sized (before ++ items) fields item
-      → AreGood names sized before (rows ++ fields ∷ []) (items ++ item ∷ [])
-  good-push before [] [] fields item g h = (subst (λ (b : List Item). IsGood names sized b fields item) (append-nil before) h, tt)
+  pub good-push : (before : List Item) (rows : List (List (List ℕ))) (items : List Item) (fields : List (List ℕ)) (item : Item) → AreGood (sheet_rules names sized) before rows items → IsGood (sheet_rules names sized) (before ++ items) fields item
+      → AreGood (sheet_rules names sized) before (rows ++ fields ∷ []) (items ++ item ∷ [])
+  good-push before [] [] fields item g h = (subst (λ (b : List Item). IsGood (sheet_rules names sized) b fields item) (append-nil before) h, tt)
   good-push before [] (x ∷ items) fields item g h = absurd g
   good-push before (row ∷ rows) [] fields item g h = absurd g
   good-push before (row ∷ rows) (x ∷ items) fields item g h =
-      (g.0, good-push (before ++ x ∷ []) rows items fields item g.1 (subst (λ (b : List Item). IsGood names sized b fields item) (sym (append_assoc before (x ∷ []) items)) h))
+      (g.0, good-push (before ++ x ∷ []) rows items fields item g.1 (subst (λ (b : List Item). IsGood (sheet_rules names sized) b fields item) (sym (append_assoc before (x ∷ []) items)) h))
 
-  pub good-length : (before : List Item) (rows : List (List (List ℕ))) (items : List Item) → AreGood names sized before rows items → length rows ≡ length items
+  pub good-length : (before : List Item) (rows : List (List (List ℕ))) (items : List Item) → AreGood (sheet_rules names sized) before rows items → length rows ≡ length items
   good-length before [] [] g = refl
   good-length before [] (x ∷ items) g = absurd g
   good-length before (row ∷ rows) [] g = absurd g

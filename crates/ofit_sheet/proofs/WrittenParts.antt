@@ -1,6 +1,6 @@
 -- The text of a sheet, part by part.
-use Rattle.std.proofs.Common.{◌≡◌, ℕ, ◌+◌, ◌<◌, List, [], ◌∷◌, ◌++◌, map, take, length, get_or, refl, sym, ap, subst, ◌∙◌, append_assoc, append-nil, arith}
-use Rattle.std.specs.Prelude.{All, slice_get, Some}
+use Rattle.std.proofs.Common.{◌≡◌, ℕ, ◌+◌, ◌<◌, List, [], ◌∷◌, ◌++◌, map, take, length, get_or, refl, sym, ap, ◌∙◌, append_assoc, append-nil, arith}
+use Rattle.std.specs.Prelude.{slice_get, Some}
 use Rattle.std.proofs.lemmas.List.{take_more, take_all, map-append}
 use Rattle.std.proofs.lemmas.Option.{slice_get_within, get_or_from_slice_get}
 use Rattle.ofit_records.specs.Written.{record_text, records_text}
@@ -22,9 +22,6 @@ records_text-append (row ∷ rows) more =
 -- the item at a place of a list
 pub item_at : {X : Type 0} (xs : List X) (i : ℕ) (x : X) → slice_get xs i ≡ Some x → (i < length xs) × (get_or xs i x ≡ x)
 item_at xs i x e = (slice_get_within xs i x e, get_or_from_slice_get xs i x x e)
-
-pub holds_at : {X : Type 0} (P : X → Type 0) (xs : List X) (i : ℕ) (x : X) → All P xs → slice_get xs i ≡ Some x → P x
-holds_at P xs i x h e = let at = item_at xs i x e in subst P at.1 (h i x at.0)
 
 -- one record more of those that a list tells
 pub one_more : {X : Type 0} (f : X → List (List ℕ)) (xs : List X) (i : ℕ) (x : X) (front now later : List ℕ) → slice_get xs i ≡ Some x → now ≡ front ++ records_text (map f (take i xs))

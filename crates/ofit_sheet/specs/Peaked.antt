@@ -1,5 +1,7 @@
 -- A peaked sheet: values that rise up to a peak and fall from it, their cost, and chain fits of all the first groups and of all the last ones, with amounts that certify them.
-use Rattle.std.specs.Prelude.{◌≡◌, ◌<◌, ◌≤◌, ◌-◌, ◌^◌, ℕ, ℤ, pos, ◌≤ℤ◌, List, [], length, Option, MatchOption, IfSome, All, slice_get, slice_index_or, unsigned_abs, None}
+use Rattle.std.specs.Prelude.{◌≡◌, ◌<◌, ◌≤◌, ◌-◌, ℕ, ℤ, pos, ◌≤ℤ◌, List, [], length, Option, MatchOption, IfSome, All, slice_get, slice_index_or, unsigned_abs, None}
+use Rattle.ofit_num.specs.declared.limits.TheConstants.{MOST_UNITS}
+pub use Rattle.ofit_sheet.specs.declared.peaked.limits.TheConstants.{MOST_COST as most_cost}
 use Rattle.ofit_sheet.specs.Kept.{most_amount}
 
 -- each step of a side is a group's value and an amount
@@ -36,16 +38,13 @@ pub record IsShaped (n : ℕ) (x : Peaked) : Type 0 where
 
 -- the limits of the numbers that are printed
 pub record IsStepInLimits (step : ℤ × ℤ) : Type 0 where
-  pub value : unsigned_abs step.0 ≤ 10 ^ 9
+  pub value : unsigned_abs step.0 ≤ MOST_UNITS
   pub amount : unsigned_abs step.1 ≤ most_amount
-
-abbrev pub most_cost : ℕ
-most_cost = 10 ^ 30
 
 -- and without groups nothing costs anything
 pub record IsInLimits (x : Peaked) : Type 0 where
   pub cost : x.cost ≤ most_cost
   pub nothing : x.peak ≡ None → x.cost ≡ 0
-  pub values : All (λ value. unsigned_abs value ≤ 10 ^ 9) x.values
+  pub values : All (λ value. unsigned_abs value ≤ MOST_UNITS) x.values
   pub rises : All (λ side. All IsStepInLimits side) x.rises
   pub falls : All (λ side. All IsStepInLimits side) x.falls

@@ -1,15 +1,18 @@
 -- How the records of a peaked sheet are read, for a study with these group names.
-use Rattle.std.specs.Prelude.{◌≡◌, ◌≤◌, ◌^◌, ℕ, ℤ, pos, List, [], ◌∷◌, ◌++◌, map, length, Bool, true, false, Option, Some, None, Result, codes, slice_get, unsigned_abs, ⊤}
+use Rattle.std.specs.Prelude.{◌≡◌, ◌≤◌, ℕ, ℤ, pos, List, [], ◌∷◌, ◌++◌, map, length, Bool, true, false, Option, Some, None, Result, codes, slice_get, unsigned_abs, ⊤}
 use Rattle.std.specs.List.{flat_map, list_any}
 use Rattle.ofit_num.specs.NumberText.{IsWhole, IsSigned}
+use Rattle.ofit_num.specs.declared.limits.TheConstants.{MOST_UNITS}
 use Rattle.ofit_sheet.specs.declared.fault.SheetFault.{SheetFault}
 use Rattle.ofit_sheet.specs.Kept.{most_amount}
+use Rattle.ofit_study.specs.declared.loss.LossKind.TheVariants.{Median}
 use Rattle.ofit_study.specs.FieldText.{dash}
+use Rattle.ofit_study.specs.Loss.{loss_text}
 use Rattle.ofit_sheet.specs.SheetText.{end_fields}
 use Rattle.ofit_sheet.specs.Peaked.{Peaked, IsShaped, most_cost}
 use Rattle.ofit_sheet.specs.PeakedText.{side_fields}
 use Rattle.ofit_sheet.specs.Slots.{Slot, peak_slot, value_slot, side_slot, step_slot, last_slot, end_slot, slots}
-use Rattle.ofit_sheet.specs.Frame.{Grammar, FrameRead}
+use Rattle.ofit_sheet.specs.Frame.{Rules, Grammar, FrameRead}
 
 -- what a record behind the header says: the peak and the cost, a value, that a side begins, the value and the amount of a step, the end
 pub data Item : Type 0 where
@@ -21,7 +24,7 @@ pub data Item : Type 0 where
 
 pub record IsPeakedHeader (fields : List (List ℕ)) (places : ℕ) : Type 0 where
   pub text : List ℕ
-  pub spells : fields ≡ codes "ofit-peaked" ∷ codes "1" ∷ codes "median" ∷ text ∷ []
+  pub spells : fields ≡ codes "ofit-peaked" ∷ codes "1" ∷ loss_text Median ∷ text ∷ []
   pub number : IsWhole text places
   pub most : places ≤ 6
 
@@ -87,9 +90,9 @@ pub record SpellsNext (names : List (List ℕ)) (before : List Item) (fields : L
 
 abbrev pub IsWithinLimits : Item → Type 0
 IsWithinLimits (peak_item place cost) = cost ≤ most_cost
-IsWithinLimits (value_item value) = unsigned_abs value ≤ 10 ^ 9
+IsWithinLimits (value_item value) = unsigned_abs value ≤ MOST_UNITS
 IsWithinLimits side_item = ⊤
-IsWithinLimits (step_item value amount) = (unsigned_abs value ≤ 10 ^ 9) × (unsigned_abs amount ≤ most_amount)
+IsWithinLimits (step_item value amount) = (unsigned_abs value ≤ MOST_UNITS) × (unsigned_abs amount ≤ most_amount)
 IsWithinLimits end_item = ⊤
 
 abbrev pub is_end : Item → Bool
@@ -99,12 +102,17 @@ is_end side_item = false
 is_end (step_item value amount) = false
 is_end end_item = true
 
+abbrev pub peaked_rules : List (List ℕ) → Rules Item
+peaked_rules names = record {
+  Spells = SpellsNext names;
+  IsWithin = IsWithinLimits;
+  has_end = list_any is_end;
+}
+
 abbrev pub peaked_grammar : List (List ℕ) → Grammar ℕ Item
 peaked_grammar names = record {
   IsHeader = IsPeakedHeader;
-  Spells = λ places before fields item. SpellsNext names before fields item;
-  IsWithin = IsWithinLimits;
-  has_end = list_any is_end;
+  rules = λ places. peaked_rules names;
 }
 
 -- what the records behind the header say of a peaked sheet

@@ -6,6 +6,7 @@ use Rattle.ofit_sheet.specs.declared.fault.SheetFault.{SheetFault}
 use Rattle.ofit_sheet.specs.declared.fault.SheetFault.TheVariants as fault
 use Rattle.ofit_sheet.specs.Reading.{IsReading}
 use Rattle.ofit_sheet.specs.declared.peaked.slope.Slope.{Slope}
+use Rattle.ofit_sheet.specs.Frame.{HasBadHeader}
 use Rattle.ofit_sheet.specs.Peaked.{IsSide}
 use Rattle.ofit_sheet.specs.Slots.{Slot, steps_before_last}
 use Rattle.ofit_sheet.specs.PeakedRead.{Item, IsPeakedHeader, SpellsSlot, IsWithinLimits}
@@ -100,7 +101,7 @@ Advances number rows fields later left (Err fault.Memory) = ⊤
 -- the header, behind which others are left
 abbrev pub PlacesRead : ℕ → List (List (List ℕ)) → ℕ → List (List (List ℕ)) → Result ℕ SheetFault → Type 0
 PlacesRead number rows later left (Ok places) = (first : List (List ℕ)) × (rows ≡ first ∷ left) × IsPeakedHeader first places × (later ≡ number + 1)
-PlacesRead number rows later left (Err fault.BadHeader) = (first : List (List ℕ)) (others : List (List (List ℕ))) (places : ℕ) → rows ≡ first ∷ others → IsPeakedHeader first places → ⊥
+PlacesRead number rows later left (Err fault.BadHeader) = HasBadHeader IsPeakedHeader rows
 PlacesRead number rows later left (Err (fault.BadRecord at)) = ⊥
 PlacesRead number rows later left (Err (fault.NumberTooLarge at)) = ⊥
 PlacesRead number rows later left (Err fault.NoEnd) = ⊥

@@ -5,12 +5,14 @@ use Rattle.std.specs.List.{enumerate_from, flat_map}
 use Rattle.ofit_records.specs.Written.{records_text}
 use Rattle.ofit_sheet.specs.declared.peaked.slope.Slope.{Slope}
 use Rattle.ofit_sheet.specs.declared.peaked.slope.Slope.TheVariants.{Rise, Fall}
+use Rattle.ofit_study.specs.declared.loss.LossKind.TheVariants.{Median}
 use Rattle.ofit_study.specs.FieldText.{dash}
+use Rattle.ofit_study.specs.Loss.{loss_text}
 use Rattle.ofit_sheet.specs.SheetText.{name_at, end_fields}
 use Rattle.ofit_sheet.specs.Peaked.{Peaked}
 
 abbrev pub peaked_header_fields : ℕ → List (List ℕ)
-peaked_header_fields places = codes "ofit-peaked" ∷ codes "1" ∷ codes "median" ∷ decimal places ∷ []
+peaked_header_fields places = codes "ofit-peaked" ∷ codes "1" ∷ loss_text Median ∷ decimal places ∷ []
 
 -- without groups there is no peak, and nothing costs anything
 abbrev pub peak_fields : List (List ℕ) → Option ℕ → ℕ → List (List ℕ)

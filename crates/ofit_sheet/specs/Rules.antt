@@ -1,11 +1,12 @@
 -- Where a record may stand in a sheet, and the limits on its numbers.
-use Rattle.std.specs.Prelude.{◌≡◌, ◌<◌, ◌≤◌, ℕ, ℤ, List, [], ◌∷◌, ◌++◌, length, All, Bool, true, false, Option, Some, None, ⊤, unsigned_abs}
+use Rattle.std.specs.Prelude.{◌≡◌, ◌<◌, ◌≤◌, ℕ, ℤ, List, [], length, All, Bool, true, false, Option, Some, None, ⊤, unsigned_abs}
 use Rattle.std.specs.List.{filter_map, list_any}
 use Rattle.ofit_num.specs.Fraction.{Fraction, IsLowest}
 use Rattle.ofit_num.specs.Reduced as frac
 use Rattle.ofit_study.specs.Settings.{IsBoundInLimits, InOrder}
 use Rattle.ofit_sheet.specs.declared.item.Item.{Item}
 use Rattle.ofit_sheet.specs.declared.item.Item.TheVariants as it
+use Rattle.ofit_sheet.specs.Frame.{Rules}
 use Rattle.ofit_sheet.specs.Kept.{IsSizeInLimits, most_amount}
 use Rattle.ofit_sheet.specs.Spelling.{Spells}
 
@@ -65,31 +66,10 @@ IsWithinLimits (it.Value place value) = frac.InLimits value
 IsWithinLimits (it.Flow low high amount) = unsigned_abs amount ≤ most_amount
 IsWithinLimits it.End = ⊤
 
--- a record without a fault
-pub record IsGood (names : List (List ℕ)) (sized : Bool) (before : List Item) (fields : List (List ℕ)) (item : Item) : Type 0 where
-  pub open_yet : has_end before ≡ false
-  pub spells : Spells names fields item
-  pub allowed : IsAllowed sized before item
-  pub within : IsWithinLimits item
-
--- records without a fault, behind those before them
-abbrev pub AreGood : List (List ℕ) → Bool → List Item → List (List (List ℕ)) → List Item → Type 0
-AreGood names sized before [] [] = ⊤
-AreGood names sized before [] (item ∷ items) = ⊥
-AreGood names sized before (fields ∷ rows) [] = ⊥
-AreGood names sized before (fields ∷ rows) (item ∷ items) = IsGood names sized before fields item × AreGood names sized (before ++ item ∷ []) rows items
-
--- the three faults of a record, of which the first that holds counts
-abbrev pub IsAfterEnd : List (List ℕ) → Bool → List Item → List (List ℕ) → Type 0
-IsAfterEnd names sized before fields = has_end before ≡ true
-
-pub record IsBad (names : List (List ℕ)) (sized : Bool) (before : List Item) (fields : List (List ℕ)) : Type 0 where
-  pub open_yet : has_end before ≡ false
-  pub breaks : (item : Item) → Spells names fields item → IsAllowed sized before item → ⊥
-
-pub record IsTooLarge (names : List (List ℕ)) (sized : Bool) (before : List Item) (fields : List (List ℕ)) : Type 0 where
-  pub open_yet : has_end before ≡ false
-  pub item : Item
-  pub spells : Spells names fields item
-  pub allowed : IsAllowed sized before item
-  pub beyond : IsWithinLimits item → ⊥
+-- a record spells an item that may stand behind those before it
+abbrev pub sheet_rules : List (List ℕ) → Bool → Rules Item
+sheet_rules names sized = record {
+  Spells = λ before fields item. Spells names fields item × IsAllowed sized before item;
+  IsWithin = IsWithinLimits;
+  has_end = has_end;
+}

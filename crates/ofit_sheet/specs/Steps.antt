@@ -8,14 +8,14 @@ use Rattle.ofit_sheet.specs.declared.fields.Kind.{Kind}
 use Rattle.ofit_sheet.specs.declared.header.Header.{Header}
 use Rattle.ofit_sheet.specs.declared.item.Item.{Item}
 use Rattle.ofit_sheet.specs.Reading.{IsReading}
-use Rattle.ofit_sheet.specs.Rules.{IsAllowed, IsWithinLimits, IsGood, AreGood, IsAfterEnd, IsBad, IsTooLarge}
+use Rattle.ofit_sheet.specs.Frame.{IsGood, AreGood, IsAfterEnd, IsBad, IsTooLarge, Rules, HasBadHeader}
+use Rattle.ofit_sheet.specs.Rules.{IsAllowed, IsWithinLimits, sheet_rules}
 use Rattle.ofit_sheet.specs.Spelling.{IsHeader, kind_in, FieldsSpell, Spells}
-use Rattle.ofit_sheet.specs.SheetRead.{HasBadHeader}
 use Rattle.ofit_sheet.specs.Told.{seen, told_of}
 
 -- the records so far are good, and the draft holds what they told
 pub record Follows (names : List (List ℕ)) (sized : Bool) (rows : List (List (List ℕ))) (items : List Item) (draft : Draft) : Type 0 where
-  pub good : AreGood names sized [] rows items
+  pub good : AreGood (sheet_rules names sized) [] rows items
   pub told : seen draft ≡ told_of items
 
 -- a record of this kind with these fields behind it, where it may stand
@@ -37,7 +37,7 @@ ItemRead names sized draft fields result =
 -- what the first of the records gives, behind which others are left
 abbrev pub HeaderRead : List (List (List ℕ)) → List (List (List ℕ)) → Result Header SheetFault → Type 0
 HeaderRead rows left (Ok head) = (first : List (List ℕ)) × (rows ≡ first ∷ left) × IsHeader first head
-HeaderRead rows left (Err fault.BadHeader) = HasBadHeader rows
+HeaderRead rows left (Err fault.BadHeader) = HasBadHeader IsHeader rows
 HeaderRead rows left (Err (fault.BadRecord number)) = ⊥
 HeaderRead rows left (Err (fault.NumberTooLarge number)) = ⊥
 HeaderRead rows left (Err fault.NoEnd) = ⊥
@@ -46,24 +46,24 @@ HeaderRead rows left (Err fault.Memory) = ⊤
 
 -- what the next record gives
 abbrev pub RowRead : List (List ℕ) → Bool → List Item → List (List ℕ) → Result Draft SheetFault → Type 0
-RowRead names sized items fields (Ok after) = (item : Item) × IsGood names sized items fields item × (seen after ≡ told_of (items ++ item ∷ []))
+RowRead names sized items fields (Ok after) = (item : Item) × IsGood (sheet_rules names sized) items fields item × (seen after ≡ told_of (items ++ item ∷ []))
 RowRead names sized items fields (Err fault.BadHeader) = ⊥
-RowRead names sized items fields (Err (fault.BadRecord number)) = (number ≡ length items + 2) × IsBad names sized items fields
-RowRead names sized items fields (Err (fault.NumberTooLarge number)) = (number ≡ length items + 2) × IsTooLarge names sized items fields
+RowRead names sized items fields (Err (fault.BadRecord number)) = (number ≡ length items + 2) × IsBad (sheet_rules names sized) items fields
+RowRead names sized items fields (Err (fault.NumberTooLarge number)) = (number ≡ length items + 2) × IsTooLarge (sheet_rules names sized) items fields
 RowRead names sized items fields (Err fault.NoEnd) = ⊥
-RowRead names sized items fields (Err (fault.AfterEnd number)) = (number ≡ length items + 2) × IsAfterEnd names sized items fields
+RowRead names sized items fields (Err (fault.AfterEnd number)) = (number ≡ length items + 2) × IsAfterEnd (sheet_rules names sized) items fields
 RowRead names sized items fields (Err fault.Memory) = ⊤
 
 -- the first of the records behind the header that has a fault
-pub record StopsBehind (names : List (List ℕ)) (sized : Bool) (rows : List (List (List ℕ))) (number : ℕ) (IsFault : List (List ℕ) → Bool → List Item → List (List ℕ) → Type 0) : Type 0 where
+pub record StopsBehind (names : List (List ℕ)) (sized : Bool) (rows : List (List (List ℕ))) (number : ℕ) (IsFault : Rules Item → List Item → List (List ℕ) → Type 0) : Type 0 where
   pub before : List (List (List ℕ))
   pub fields : List (List ℕ)
   pub after : List (List (List ℕ))
   pub parted : rows ≡ before ++ fields ∷ after
   pub items : List Item
-  pub good : AreGood names sized [] before items
+  pub good : AreGood (sheet_rules names sized) [] before items
   pub counted : number ≡ length items + 2
-  pub fault : IsFault names sized items fields
+  pub fault : IsFault (sheet_rules names sized) items fields
 
 -- what all records behind the header give
 abbrev pub RestRead : List (List ℕ) → Bool → List (List (List ℕ)) → Result Draft SheetFault → Type 0

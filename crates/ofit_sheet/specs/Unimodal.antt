@@ -1,6 +1,6 @@
 -- Values that rise up to a peak and fall from it, and the best of all peaks.
-use Rattle.std.specs.Prelude.{◌≡◌, ◌+◌, ◌-◌, ◌*◌, ◌^◌, ◌<◌, ◌≤◌, ℕ, suc, ℤ, pos, ◌≤ℤ◌, List, [], ◌++◌, map, length, Option, Some, None, slice_index_or}
-use Rattle.std.specs.List.{range_with_len}
+use Rattle.std.specs.Prelude.{◌≡◌, ◌*◌, ◌^◌, ◌<◌, ◌≤◌, ℕ, suc, ℤ, pos, ◌≤ℤ◌, List, [], length, Option, Some, None, slice_index_or}
+pub use Rattle.ofit_num.specs.Pairs.{umbrella_pairs}
 use Rattle.ofit_num.specs.Problem.{Problem, Bounds}
 use Rattle.ofit_num.specs.Meaning.{Meaning}
 use Rattle.ofit_num.specs.Loss.{median}
@@ -16,10 +16,6 @@ pub record IsUnimodal (n peak : ℕ) (t : Trial) : Type 0 where
   pub scale : 0 < t.scale
   pub rises : (g : ℕ) → suc g < n → g < peak → t.value g ≤ℤ t.value (suc g)
   pub falls : (g : ℕ) → suc g < n → peak ≤ g → t.value (suc g) ≤ℤ t.value g
-
--- each place before the peak is low to the next one, and each place behind it to the one before
-abbrev pub umbrella_pairs : ℕ → ℕ → List (ℕ × ℕ)
-umbrella_pairs peak n = map (λ i. (i, i + 1)) (range_with_len 0 peak) ++ map (λ i. (i + 1, i)) (range_with_len peak (n - 1 - peak))
 
 -- a problem with the pairs of the umbrella in place of its own
 abbrev pub umbrella : Problem → ℕ → Problem

@@ -26,8 +26,9 @@ mod write;
 pub use fault::SheetFault;
 pub use laws::{sheets_are_read_back, sheets_are_read_in_one_way};
 pub use peaked::{
-    Peaked, Side, peaked_sheets_are_read_back, peaked_sheets_are_read_in_one_way, read_peaked,
-    unimodal_trials_obey_the_umbrella, write_peaked,
+    MOST_COST, MOST_PEAK_GROUPS, Peaked, Side, peaked_sheets_are_read_back,
+    peaked_sheets_are_read_in_one_way, read_peaked, unimodal_trials_obey_the_umbrella,
+    write_peaked,
 };
 pub use read::read_sheet;
 pub use sheet::Sheet;

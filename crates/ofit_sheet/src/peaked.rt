@@ -4,6 +4,7 @@
 
 mod cursor;
 mod laws;
+mod limits;
 mod read;
 mod record;
 mod sheet;
@@ -15,6 +16,7 @@ pub use laws::{
     peaked_sheets_are_read_back, peaked_sheets_are_read_in_one_way,
     unimodal_trials_obey_the_umbrella,
 };
+pub use limits::{MOST_COST, MOST_PEAK_GROUPS};
 pub use read::read_peaked;
 pub use sheet::Peaked;
 pub use side::Side;

@@ -1,7 +1,8 @@
-ghost use Rattle.std.specs.Prelude.{◌≡◌, ◌≤◌, ◌^◌, IfSome, MatchOption};
+ghost use Rattle.std.specs.Prelude.{◌≡◌, ◌≤◌, IfSome, MatchOption};
 ghost use Rattle.std.specs.Int.RustNames.{unsigned_abs};
 ghost use Rattle.ofit_num.specs.Fraction.{IsLowest};
 ghost use Rattle.ofit_num.specs.Reduced.{InLimits};
+ghost use Rattle.ofit_num.specs.declared.limits.TheConstants.{MOST_DEN as most_den, MOST_NUM as most_num};
 ghost use Rattle.ofit_study.specs.Study.{names_of};
 ghost use Rattle.ofit_sheet.specs.Reading.{IsReading};
 ghost use Rattle.ofit_sheet.specs.Spelling.{SpellsFraction, SpellsValue};
@@ -14,9 +15,9 @@ use ofit_study::Study;
 
 /// The fraction of these numbers, where they are in lowest terms.
 fn fraction_of(num: i128, den: u128) -> Option<Frac>
-    requires numerator { unsigned_abs num ≤ 10 ^ 21 }
+    requires numerator { unsigned_abs num ≤ most_num }
     requires positive { 1 ≤ den }
-    requires denominator { den ≤ 10 ^ 12 }
+    requires denominator { den ≤ most_den }
     ensures exactly { MatchOption result (IsLowest (record { num = num; den = den }) → ⊥) (λ c. c ≡ record { num = num; den = den }) }
     ensures lowest { IfSome result IsLowest }
 {

@@ -1,10 +1,19 @@
--- The places of a valid study.
-use Rattle.std.proofs.Common.{◌≡◌, ℕ, ◌<◌, length, arith}
+-- The places of names, and of a valid study.
+use Rattle.std.proofs.Common.{◌≡◌, ◌≢◌, ◌∙◌, ℕ, ◌<◌, List, length, sym, ap, arith}
 use Rattle.std.proofs.lemmas.List.{length-map}
-use Rattle.std.specs.Prelude.{slice_get, Some}
+use Rattle.std.proofs.lemmas.Option.{slice_get_within}
+use Rattle.std.specs.Prelude.{AllPairs, slice_get, Some}
 use Rattle.ofit_num.proofs.Lists.{All-slice_get}
 use Rattle.ofit_study.specs.Study.{Study, IsValid, names_of, groups_of, places_of, place_among, rows_named}
+use Rattle.ofit_study.proofs.Pushing.{place_among-at, name_at-get}
 use Rattle.ofit_study.proofs.Stating.{pairs_have_places}
+
+-- a name stands at one place of distinct ones
+pub named_place : (names : List (List ℕ)) (name : List ℕ) (p q : ℕ) → AllPairs (λ a b. a ≢ b) names → slice_get names p ≡ Some name → slice_get names q ≡ Some name → p ≡ q
+named_place names name p q apart e f =
+    sym (place_among-at names apart p (slice_get_within names p name e))
+    ∙ ap (place_among names) (name_at-get names p name e ∙ sym (name_at-get names q name f))
+    ∙ place_among-at names apart q (slice_get_within names q name f)
 
 pub group_count : (s : Study) → length (groups_of s) ≡ length (names_of s)
 group_count s = length-map (names_of s) (rows_named s.rows)

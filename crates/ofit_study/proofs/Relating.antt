@@ -1,9 +1,10 @@
 -- Pairs by names and by places.
-use Rattle.std.proofs.Common.{◌≡◌, ◌≢◌, ℕ, zero, suc, ◌+◌, ◌<◌, ◌⊎◌, inl, inr, List, [], ◌∷◌, ◌++◌, refl, sym, ap, ap₂, ◌∙◌, ◌≤◌, subst, arith, length, get_or, take, drop, true≢false}
+use Rattle.std.proofs.Common.{◌≡◌, ◌≢◌, ℕ, suc, ◌+◌, ◌<◌, ◌⊎◌, inl, inr, List, [], ◌∷◌, ◌++◌, refl, sym, ap, ap₂, ◌∙◌, ◌≤◌, subst, arith, length, get_or, take, drop, true≢false}
 use Rattle.std.proofs.lemmas.List.{length-append, length-map, length-take, length-drop, take-append-drop, drop_more, get_or-map, map_push, take_more}
 use Rattle.std.proofs.lemmas.List.Elements.{All-head, All-tail, All-append, All-push, All-take, All-drop, All-map, All-weaker, All-contains, Contains-append_cases, Contains-append_left, Contains-append_right}
 use Rattle.std.proofs.lemmas.Option.{slice_get_within, get_or_from_slice_get}
 use Rattle.std.specs.Prelude.{All, AllPairs, Contains, map, remove, slice_get, Option, None, Some, is_some, IsTrue, MatchOption, Bool, ◌↔◌}
+pub use Rattle.ofit_num.proofs.Members.{in_map as Contains-map, from_map as Contains-from_map}
 use Rattle.ofit_num.proofs.Sheets.{AllPairs-head}
 use Rattle.ofit_study.specs.Study.{Study, IsValid, HasPairs, names_of, places_of, place_among}
 use Rattle.ofit_study.specs.Kept.{named, name_at}
@@ -28,16 +29,6 @@ pub named_list : (names : List (List ℕ)) (pairs : List (List ℕ × List ℕ))
 named_list names [] h = refl
 named_list names (e ∷ pairs) h =
     ap₂ (λ (x : List ℕ × List ℕ) (xs : List (List ℕ × List ℕ)). x ∷ xs) (named_back names e (All-head (IsKnown names) e pairs h)) (named_list names pairs (All-tail (IsKnown names) e pairs h))
-
-pub Contains-map : {X Y : Type 0} (f : X → Y) (xs : List X) (x : X) → Contains xs x → Contains (map f xs) (f x)
-Contains-map f [] x h = absurd (omega (arith, h.1))
-Contains-map f (y ∷ xs) x (zero, l, e) = (zero, omega arith, ap f e)
-Contains-map f (y ∷ xs) x (suc k, l, e) = let r = Contains-map f xs x (k, omega (arith, l), e) in (suc r.0, omega (arith, r.1), r.2)
-
-pub Contains-from_map : {X Y : Type 0} (f : X → Y) (xs : List X) (y : Y) → Contains (map f xs) y → (x : X) × Contains xs x × (f x ≡ y)
-Contains-from_map f [] y h = absurd (omega (arith, h.1))
-Contains-from_map f (x ∷ xs) y (zero, l, e) = (x, (zero, omega arith, refl), e)
-Contains-from_map f (x ∷ xs) y (suc k, l, e) = let r = Contains-from_map f xs y (k, omega (arith, l), e) in (r.0, Contains-append_right (x ∷ []) xs r.0 r.1, r.2)
 
 -- known pairs stand among others just where their places do
 pub placed_one : (names : List (List ℕ)) (pairs : List (List ℕ × List ℕ)) → All (IsKnown names) pairs → (e : List ℕ × List ℕ) → IsKnown names e → Contains (map (placed names) pairs) (placed names e) → Contains pairs e

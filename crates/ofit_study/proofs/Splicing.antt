@@ -7,20 +7,13 @@ use Rattle.std.proofs.lemmas.List.Kept.{AllPairs-cons}
 use Rattle.std.proofs.lemmas.List.Sums.{sum_by-append}
 use Rattle.std.specs.Prelude.{All, AllPairs, Contains, slice_get, Some}
 use Rattle.ofit_num.proofs.Pigeonhole.{distinct_few}
+pub use Rattle.ofit_num.proofs.RowLists.{all_front as All-left, all_back as All-right}
 use Rattle.ofit_num.proofs.Sheets.{AllPairs-head, AllPairs-tail}
 use Rattle.ofit_study.specs.Study.{Observation, Study, IsObservation, IsValid, group_names, names_of, total_weight, most_rows, most_groups}
 use Rattle.ofit_study.specs.Splice.{rows_between}
 use Rattle.ofit_study.proofs.GroupNames.{IsOfRow, group_names-distinct, group_names-each, group_names-come_from}
 
 -- lists in two parts
-
-pub All-left : {X : Type 0} (P : X → Type 0) (xs ys : List X) → All P (xs ++ ys) → All P xs
-All-left P [] ys h = All-nil P
-All-left P (x ∷ xs) ys h = All-cons P x xs (All-head P x (xs ++ ys) h) (All-left P xs ys (All-tail P x (xs ++ ys) h))
-
-pub All-right : {X : Type 0} (P : X → Type 0) (xs ys : List X) → All P (xs ++ ys) → All P ys
-All-right P [] ys h = h
-All-right P (x ∷ xs) ys h = All-right P xs ys (All-tail P x (xs ++ ys) h)
 
 pub AllPairs-append : {X : Type 0} (R : X → X → Type 0) (xs ys : List X) → AllPairs R xs → AllPairs R ys → All (λ x. All (R x) ys) xs → AllPairs R (xs ++ ys)
 AllPairs-append R [] ys a b c = b

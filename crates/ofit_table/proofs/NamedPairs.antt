@@ -1,28 +1,15 @@
 -- A study has pairs of places in one way.
-use Rattle.std.proofs.Common.{◌≡◌, ◌≢◌, ◌∙◌, ℕ, List, Some, Ordering, map, inl, inr, sym, ap, subst, arith}
-use Rattle.std.specs.Prelude.{All, AllPairs, Contains, slice_get}
+use Rattle.std.proofs.Common.{◌≡◌, ◌∙◌, ℕ, List, Ordering, map, inl, inr, sym, ap, subst}
+use Rattle.std.specs.Prelude.{All, Contains}
 use Rattle.std.specs.declared.cmp.Ordering.TheVariants.{Less, Equal, Greater}
 use Rattle.std.specs.Cmp.Lexicographic.{slice_cmp}
 use Rattle.std.specs.Ordering.{nat_cmp, ordering_reverse}
-use Rattle.std.proofs.lemmas.Bool.{cases_lt}
 use Rattle.std.proofs.lemmas.Cmp.{nat_list_cmp_total}
 use Rattle.std.proofs.lemmas.List.Elements.{All-contains}
-use Rattle.std.proofs.lemmas.Option.{slice_get_within, get_or_from_slice_get}
 use Rattle.ofit_study.specs.Kept.{name_at}
 use Rattle.ofit_study.specs.Study.{ComesBefore, HasPairs, IsBefore, Study, names_of, place_among, places_of}
 use Rattle.ofit_study.proofs.Stating.{name_at-place}
 use Rattle.ofit_num.proofs.Members.{from_map, in_map, sorted_one}
-
--- the place of a name among distinct ones
-pub named_place : (names : List (List ℕ)) (name : List ℕ) (p q : ℕ) → AllPairs (λ a b. a ≢ b) names → slice_get names p ≡ Some name → slice_get names q ≡ Some name → p ≡ q
-named_place names name p q apart e f =
-    elim (cases_lt p q) [
-      | inl less ↦ absurd (apart p q name less (slice_get_within names q name f) (get_or_from_slice_get names p name name e ∙ sym (get_or_from_slice_get names q name name f)))
-      | inr more ↦ elim (cases_lt q p) [
-        | inl less ↦ absurd (apart q p name less (slice_get_within names p name e) (get_or_from_slice_get names q name name f ∙ sym (get_or_from_slice_get names p name name e)))
-        | inr same ↦ omega (arith, more, same)
-      ]
-    ]
 
 never_less : (o : Ordering) → o ≡ ordering_reverse o → o ≡ Less → ⊥
 never_less Less e l = absurd cc

@@ -13,7 +13,7 @@ use Rattle.ofit_table.specs.declared.header.OrderColumns.{OrderColumns}
 use Rattle.ofit_table.specs.Pairs.{AreDistinct, AreEnds, ArePairs, IsPair, IsPairTooMany, IsUnknown, PairFault}
 use Rattle.ofit_num.proofs.Members.{cons_first}
 use Rattle.ofit_num.proofs.Pigeonhole.{distinct_few}
-use Rattle.ofit_table.proofs.NamedPairs.{named_place}
+use Rattle.ofit_study.proofs.Places.{named_place}
 use Rattle.ofit_table.proofs.Places.{within}
 use Rattle.ofit_table.proofs.RecordReadings.{field_one}
 

@@ -11,7 +11,8 @@ use Rattle.ofit_table.specs.declared.fault.OrderFault.{OrderFault}
 use Rattle.ofit_table.specs.declared.fault.OrderFault.TheVariants.{NoHeader, NoColumn, ColumnTwice, FieldMissing, UnknownGroup, TooManyPairs, NoGroup, Memory}
 use Rattle.ofit_num.specs.Pairs.{tree_pairs, umbrella_pairs}
 use Rattle.ofit_table.specs.PatternRead.{ArePatternPairs, PatternRead}
-use Rattle.ofit_table.proofs.NamedPairs.{named_place, paired_one}
+use Rattle.ofit_study.proofs.Places.{named_place}
+use Rattle.ofit_table.proofs.NamedPairs.{paired_one}
 
 module _ (names : List (List ℕ)) (apart : AllPairs (λ a b. a ≢ b) names) where
   pub shape_one : (pattern : Pattern) (pairs others : List (ℕ × ℕ)) → ArePatternPairs pattern names (Ok pairs) → ArePatternPairs pattern names (Ok others) → pairs ≡ others

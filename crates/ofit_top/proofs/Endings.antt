@@ -12,16 +12,17 @@ use Rattle.ofit_words.specs.declared.job.Job.{Job}
 use Rattle.ofit_words.specs.Words.{WordsRead}
 use Rattle.ofit_check.specs.declared.verdict.Verdict.{Verdict}
 use Rattle.ofit_check.specs.declared.verdict.Verdict.TheVariants as verdict
+use Rattle.ofit_check.specs.declared.peak.verdict.PeakVerdict.{PeakVerdict}
+use Rattle.ofit_check.specs.declared.peak.verdict.PeakVerdict.TheVariants as peak
 use Rattle.ofit_input.specs.declared.ready.Ready.{Ready}
-use Rattle.ofit_input.specs.declared.ready.Ready.TheVariants.{Fit, Report, Verify}
-use Rattle.ofit_input.specs.declared.refusal.Refusal.TheVariants.{NotBuilt}
+use Rattle.ofit_input.specs.declared.ready.Ready.TheVariants.{Fit, Report, Verify, Session, Unimodal, VerifyUnimodal, Levels, Sample}
 use Rattle.ofit_input.specs.declared.stop.Stop.{Stop}
 use Rattle.ofit_input.specs.declared.stop.Stop.TheVariants as stop
-use Rattle.ofit_input.specs.Ready.{ReadyGives}
+use Rattle.ofit_input.specs.Ready.{ReadyGives, NamesFile}
 use Rattle.ofit_input.specs.Stops.{Stops}
 use Rattle.ofit_input.proofs.Results.{ok_apart, err_same}
 use Rattle.ofit_answer.specs.declared.answer.Answer.{Answer}
-use Rattle.ofit_answer.specs.declared.answer.Answer.TheVariants.{Done, Fails, Words, Refused, WriteFault, Memory}
+use Rattle.ofit_answer.specs.declared.answer.Answer.TheVariants.{Done, Fails, FailsPeak, Words, Refused, WriteFault, Memory}
 use Rattle.ofit_answer.specs.Endings.{word_answer, stop_answer}
 use Rattle.ofit_top.specs.Counting.{IsCounted, CountsWithin}
 use Rattle.ofit_top.specs.Steps.{CountsJob, either, Ends, EndsUnread, EndsUnwritten}
@@ -29,6 +30,7 @@ use Rattle.ofit_top.specs.Job.{JobGives, HasFits}
 use Rattle.ofit_top.specs.Run.{RunGives, Wrote, WroteInPart, AskFor}
 use Rattle.ofit_top.specs.State.{State, state}
 use Rattle.ofit_top.specs.Verify.{answer_to}
+use Rattle.ofit_top.specs.VerifyUnimodal.{peak_answer_to}
 use Rattle.ofit_top.proofs.Pieces.{with_more-nil}
 
 -- the output and the tally are as before, and what failed besides is told apart
@@ -67,14 +69,14 @@ words_end words before after same reads f (inr read) = at f read
 
 -- the files are refused, or the folder fails, or memory is wanting
 pub stop_end : (words : List (List ℕ)) (before after : State) (job : Job) (s : Stop) → WordsRead words (Ok job) → Leaves before after
-    → Stops before.read_faults after.read_faults (λ refusal. ReadyGives before.held job (Err refusal)) s → (s ≡ stop.ReadFault → ReadyGives before.held job (Err NotBuilt) → ⊥)
+    → Stops before.read_faults after.read_faults (λ refusal. ReadyGives before.held job (Err refusal)) s → (s ≡ stop.ReadFault → NamesFile job)
     → Ends words before after (stop_answer s)
-stop_end words before after job (stop.Refused refusal) read same (cause, reads) built =
+stop_end words before after job (stop.Refused refusal) read same (cause, reads) named =
     let bare : Wrote words before after (Refused refusal) 0 =
     bare_wrote words before after (Refused refusal) same (record { read = Ok job; reads = read; gives = (Err refusal, cause, record { answered = refl; empty = refl; none = refl }) }) in
     record { written = (0, bare); counted = (0, bare, none_counted before after same.counts); reads = reads; puts = same.write_faults }
-stop_end words before after job stop.ReadFault read same rose built = record { written = (record { job = job; read = read; built = built refl }, same.written); counted = same.counts; reads = rose; puts = same.write_faults }
-stop_end words before after job stop.Memory read same reads built = memory_end words before after same reads
+stop_end words before after job stop.ReadFault read same rose named = record { written = (record { job = job; read = read; names = named refl }, same.written); counted = same.counts; reads = rose; puts = same.write_faults }
+stop_end words before after job stop.Memory read same reads named = memory_end words before after same reads
 
 -- the run that a job gives
 gives_run : (words : List (List ℕ)) (before : State) (ready : Ready) (answer : Answer) (text : List ℕ) (fits : ℕ) → AskFor words before.held ready → JobGives ready answer text → HasFits ready fits
@@ -101,23 +103,33 @@ part_end words before after ready answer text asked gives counts some put reads 
 
 -- a job's answer goes with its output
 abbrev IsOutput : Answer → Type 0
-IsOutput answer = (answer ≡ Done) ⊎ ((said : Verdict) × (answer ≡ Fails said))
+IsOutput answer = (answer ≡ Done) ⊎ ((said : Verdict) × (answer ≡ Fails said)) ⊎ ((said : PeakVerdict) × (answer ≡ FailsPeak said))
 
 of_verdict : (said : Verdict) → IsOutput (answer_to said)
 of_verdict verdict.Passes = inl refl
-of_verdict said = inr (said, refl)
+of_verdict said = inr (inl (said, refl))
+
+of_peak_verdict : (said : PeakVerdict) → IsOutput (peak_answer_to said)
+of_peak_verdict peak.Passes = inl refl
+of_peak_verdict said = inr (inr (said, refl))
 
 of_job : (ready : Ready) (answer : Answer) (text : List ℕ) → JobGives ready answer text → IsOutput answer
 of_job (Fit s) answer text x = inl x.0
 of_job (Report s) answer text x = inl x.0
 of_job (Verify s sheet) answer text x = subst IsOutput (sym x.answered) (of_verdict x.said)
+of_job (Session s lines) answer text x = inl x.0
+of_job (Unimodal s) answer text x = inl x.0
+of_job (Sample made) answer text x = inl x.0
+of_job (VerifyUnimodal s peaked) answer text x = subst IsOutput (sym x.answered) (of_peak_verdict x.said)
+of_job (Levels k) answer text x = inl x.0
 
 -- the whole output came
 pub job_end : (words : List (List ℕ)) (before after : State) (ready : Ready) (answer : Answer) (text : List ℕ) → AskFor words before.held ready → JobGives ready answer text → CountsJob ready before.counts after.counts
     → after.written ≡ with_more before.written text → after.read_faults ≡ before.read_faults → after.write_faults ≡ before.write_faults → Ends words before after answer
 job_end words before after ready answer text asked gives counts put reads writes = elim (of_job ready answer text gives) [
   | inl e ↦ subst (Ends words before after) (sym e) (record { written = (counts.fits, at Done e); counted = (counts.fits, at Done e, counts.counted); reads = reads; puts = writes })
-  | inr (said, e) ↦ subst (Ends words before after) (sym e) (record { written = (counts.fits, at (Fails said) e); counted = (counts.fits, at (Fails said) e, counts.counted); reads = reads; puts = writes })
+  | inr (inl (said, e)) ↦ subst (Ends words before after) (sym e) (record { written = (counts.fits, at (Fails said) e); counted = (counts.fits, at (Fails said) e, counts.counted); reads = reads; puts = writes })
+  | inr (inr (said, e)) ↦ subst (Ends words before after) (sym e) (record { written = (counts.fits, at (FailsPeak said) e); counted = (counts.fits, at (FailsPeak said) e, counts.counted); reads = reads; puts = writes })
 ]
   where
     at : (a : Answer) → answer ≡ a → Wrote words before after a counts.fits
@@ -152,10 +164,10 @@ words_unread words held faults f h = record {
 }
 
 pub stop_unread : (words : List (List ℕ)) (held : Option Held) (before after : ℕ) (job : Job) (s : Stop) → IsErrOf {T = Job} {E = WordFault} (Ok job) fault.Memory ⊎ WordsRead words (Ok job)
-    → Stops before after (λ refusal. ReadyGives held job (Err refusal)) s → (s ≡ stop.ReadFault → ReadyGives held job (Err NotBuilt) → ⊥) → EndsUnread words held before after (stop_answer s)
-stop_unread words held before after job s h stops built = record {
+    → Stops before after (λ refusal. ReadyGives held job (Err refusal)) s → (s ≡ stop.ReadFault → NamesFile job) → EndsUnread words held before after (stop_answer s)
+stop_unread words held before after job s h stops named = record {
   ends = λ held_after written write_faults counts.
-      stop_end words (state held before written write_faults counts) (state held_after after written write_faults counts) job s (is_read words job h) (record { written = refl; counts = refl; write_faults = refl }) stops built;
+      stop_end words (state held before written write_faults counts) (state held_after after written write_faults counts) job s (is_read words job h) (record { written = refl; counts = refl; write_faults = refl }) stops named;
 }
 
 pub wanting_unwritten : (words : List (List ℕ)) (held : Option Held) (before after : ℕ) (old new : Counts) (ready : Ready) → AskFor words held ready → after ≡ before → CountsWithin ready old new

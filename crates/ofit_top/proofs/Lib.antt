@@ -1,7 +1,9 @@
 pub mod Pieces
+pub mod OnePeakVerdict
 pub mod OneEnd
 pub mod OneRun
 pub mod Counted
+pub mod SessionCounts
 pub mod Endings
 pub mod Accepted
 pub mod OnErr

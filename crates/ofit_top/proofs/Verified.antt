@@ -12,7 +12,7 @@ use Rattle.ofit_words.specs.declared.job.OrderChoice.TheVariants.{Shaped, File}
 use Rattle.ofit_words.specs.Words.{WordsRead}
 use Rattle.ofit_check.specs.declared.verdict.Verdict.TheVariants as verdict
 use Rattle.ofit_input.specs.declared.ready.Ready.{Ready}
-use Rattle.ofit_input.specs.declared.ready.Ready.TheVariants.{Fit, Report, Verify}
+use Rattle.ofit_input.specs.declared.ready.Ready.TheVariants.{Fit, Verify}
 use Rattle.ofit_input.specs.declared.refusal.Refusal.{Refusal}
 use Rattle.ofit_input.specs.Files.{IsFile}
 use Rattle.ofit_input.specs.Given.{TableGives, OrderGives, StudyGives, SheetGives}
@@ -75,5 +75,4 @@ module _ (h after : Held) (name text : List ℕ) (more : HoldsBesides h name tex
             reads = again;
             gives = (Ok (Verify s fit.sheet), (same_study inputs s apart x, sheet_given s x.3 fit), (verified s fit, refl));
           }
-      of_ready (Ok (Report s)) x gives = absurd x
-      of_ready (Ok (Verify s sheet)) x gives = absurd x
+      of_ready (Ok ready) x gives = absurd x

@@ -1,6 +1,12 @@
 pub mod Fit
 pub mod Report
 pub mod Verify
+pub mod Session
+pub mod Unimodal
+pub mod VerifyUnimodal
+pub mod Levels
+pub mod Sample
+pub mod Flows
 pub mod Job
 pub mod Counting
 pub mod State

@@ -9,8 +9,7 @@ use Rattle.ofit_words.specs.declared.fault.WordFault.{WordFault}
 use Rattle.ofit_words.specs.Words.{WordsRead}
 use Rattle.ofit_input.specs.declared.ready.Ready.{Ready}
 use Rattle.ofit_input.specs.declared.refusal.Refusal.{Refusal}
-use Rattle.ofit_input.specs.declared.refusal.Refusal.TheVariants.{NotBuilt}
-use Rattle.ofit_input.specs.Ready.{ReadyGives}
+use Rattle.ofit_input.specs.Ready.{ReadyGives, NamesFile}
 use Rattle.ofit_answer.specs.declared.answer.Answer.{Answer}
 use Rattle.ofit_answer.specs.declared.answer.Answer.TheVariants.{Words, Refused, ReadFault, WriteFault, Memory}
 use Rattle.ofit_top.specs.Job.{JobGives, HasFits}
@@ -57,11 +56,11 @@ pub record WroteInPart (words : List (List ℕ)) (before after : State) (fits : 
   pub gives : RunGives words before.held answer text fits
   pub put : GainsPrefix before.written after.written text
 
--- the words ask for a job that is built, so that its files are read
-pub record AskToRead (words : List (List ℕ)) (held : Option Held) : Type 0 where
+-- the words ask for a job that names a file
+pub record AskToRead (words : List (List ℕ)) : Type 0 where
   pub job : Job
   pub read : WordsRead words (Ok job)
-  pub built : ReadyGives held job (Err NotBuilt) → ⊥
+  pub names : NamesFile job
 
 -- the words ask for a job whose files give this
 pub record AskFor (words : List (List ℕ)) (held : Option Held) (ready : Ready) : Type 0 where
@@ -71,7 +70,7 @@ pub record AskFor (words : List (List ℕ)) (held : Option Held) (ready : Ready)
 
 -- What is written: the whole text of the answer. Where the output fails it is a first part; where the folder fails or memory is wanting, nothing.
 abbrev pub Writes : List (List ℕ) → State → State → Answer → Type 0
-Writes words before after ReadFault = AskToRead words before.held × (after.written ≡ before.written)
+Writes words before after ReadFault = AskToRead words × (after.written ≡ before.written)
 Writes words before after Memory = after.written ≡ before.written
 Writes words before after WriteFault = (fits : ℕ) × WroteInPart words before after fits
 Writes words before after answer = (fits : ℕ) × Wrote words before after answer fits

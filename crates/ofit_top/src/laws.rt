@@ -5,18 +5,22 @@ ghost use Rattle.ofit_words.specs.declared.job.Inputs.{Inputs};
 ghost use Rattle.ofit_words.specs.declared.job.Job.{Job};
 ghost use Rattle.ofit_words.specs.declared.job.Job.TheVariants as job;
 ghost use Rattle.ofit_words.specs.Words.{WordsRead};
+ghost use Rattle.ofit_input.specs.declared.ready.Ready.{Ready};
 ghost use Rattle.ofit_input.specs.declared.refusal.Refusal.{Refusal};
 ghost use Rattle.ofit_input.specs.Ready.{ReadyGives};
 ghost use Rattle.ofit_answer.specs.declared.answer.Answer.{Answer as Answered};
 ghost use Rattle.ofit_answer.specs.declared.answer.Answer.TheVariants.{Done, Memory};
 ghost use Rattle.ofit_top.specs.Beside.{HoldsBesides, IsInput};
 ghost use Rattle.ofit_top.specs.Done.{IsDone};
+ghost use Rattle.ofit_top.specs.Flows.{HasFlows};
 ghost use Rattle.ofit_top.specs.State.{State};
-ghost use Rattle.ofit_top.specs.Run.{RunGives, Writes, CountsRead, CountsWrite};
+ghost use Rattle.ofit_top.specs.Run.{RunGives, AskFor, Writes, CountsRead, CountsWrite};
 
 use ofit_input::inputs_are_given_in_one_way;
 use ofit_num::least_best_values_are_unique;
 use ofit_report::reports_are_told_in_one_way;
+use ofit_sample::samples_are_told_in_one_way;
+use ofit_script::scripts_run_in_one_way;
 use ofit_words::words_have_one_reading;
 
 /// No order, size or bound within the limits is too hard: where the words are a job of which no file is
@@ -50,7 +54,7 @@ pub fn fits_are_verified()
 }
 
 /// Over a told folder, and without faults, a run ends in one way: words and files determine its answer
-/// and its count of fits, and its text too, but for the flows of a fit's sheet.
+/// and its count of fits, and its text too, but for the flows of the sheets in it.
 pub fn runs_end_in_one_way()
     ensures answer { (words : List (List ℕ)) (h : Held) (a b : Answered) (t u : List ℕ) (n m : ℕ)
         → RunGives words (Some h) a t n → RunGives words (Some h) b u m → a ≡ b }
@@ -58,10 +62,12 @@ pub fn runs_end_in_one_way()
         → RunGives words (Some h) a t n → RunGives words (Some h) b u m → n ≡ m }
     ensures text { (words : List (List ℕ)) (h : Held) (a b : Answered) (t u : List ℕ) (n m : ℕ)
         → RunGives words (Some h) a t n → RunGives words (Some h) b u m
-        → ((inputs : Inputs) → WordsRead words (Ok (job.Fit inputs)) → ⊥) → t ≡ u }
+        → ((ready : Ready) → AskFor words (Some h) ready → HasFlows ready → ⊥) → t ≡ u }
 {
     words_have_one_reading();
     inputs_are_given_in_one_way();
     least_best_values_are_unique();
     reports_are_told_in_one_way();
+    scripts_run_in_one_way();
+    samples_are_told_in_one_way();
 }

@@ -5,11 +5,16 @@
 mod fit;
 mod job;
 mod laws;
+mod levels;
 mod output;
 mod printed;
 mod report;
+mod sample;
+mod session;
 mod top;
+mod unimodal;
 mod verify;
+mod verify_unimodal;
 
 pub use laws::{accepted_inputs_are_answered, fits_are_verified, runs_end_in_one_way};
 pub use ofit_answer::{Answer, status};

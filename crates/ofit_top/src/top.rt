@@ -1,5 +1,5 @@
 ghost use Rattle.std.specs.Prelude.{◌≡◌, ◌≤◌, ◌^◌, IfOk, IfErr, OnOk};
-ghost use Rattle.ofit_input.specs.Fitting.{SheetFits};
+ghost use Rattle.ofit_input.specs.Fitting.{IsFitting};
 ghost use Rattle.ofit_answer.specs.Tells.{sink, Tells};
 ghost use Rattle.ofit_top.specs.State.{state};
 ghost use Rattle.ofit_top.specs.Run.{texts, AskFor, Writes, CountsFits, CountsRead, CountsWrite};
@@ -27,7 +27,7 @@ fn answer_of(ended: Result<Answer, Answer>) -> Answer
 /// What the words ask for, with its files read, or the answer of a run that ends before.
 fn ready_words<F: Folder>(alloc: Global, words: &[String], folder: &mut F) -> Result<Ready, Answer>
     ensures ready { IfOk result (λ ready. AskFor (texts words.now) (F.held folder.old) ready) }
-    ensures fits { IfOk result SheetFits }
+    ensures fits { IfOk result IsFitting }
     ensures ends { IfErr result (λ answer. EndsUnread (texts words.now) (F.held folder.old) (F.faults folder.old) (F.faults folder.new) answer) }
     ensures stays { OnOk result (F.faults folder.new ≡ F.faults folder.old) }
     ensures held { F.held folder.new ≡ F.held folder.old }
@@ -52,7 +52,7 @@ fn print_words<F: Folder>(
     ensures held { F.held folder.new ≡ F.held folder.old }
 {
     let ready = ready_words(alloc, words, folder)?;
-    let printed = do_job(alloc, &ready, tally)?;
+    let printed = do_job(alloc, ready, tally)?;
     Ok(printed)
 }
 

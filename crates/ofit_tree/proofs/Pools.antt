@@ -15,23 +15,13 @@ use Rattle.ofit_num.specs.Law.{least_at, greatest_at}
 use Rattle.ofit_num.specs.Limits.{IsRowWithinLimits, total_weight, all_rows}
 use Rattle.ofit_num.specs.Sets.{set_sum}
 use Rattle.ofit_num.specs.Block.{IsPooled, IsCost}
+use Rattle.ofit_num.proofs.Blocks.{set_sum-both}
 use Rattle.ofit_num.proofs.RowLists.{all_rows-take_more, group_at}
 use Rattle.ofit_loss.specs.Rows.{AreFittable, special_count}
 use Rattle.ofit_loss.specs.Laws.{HasLossLaws}
 use Rattle.ofit_loss.specs.Least.{IsLeastMinimiser}
 use Rattle.ofit_loss.proofs.ProblemLaws.{group_fittable, pooled_minimiser, pooled_costs}
 use Rattle.ofit_tree.specs.Forest.{IsPoolOfPiece}
-
--- a sum over a piece is that over its two parts
-pub whole_sum : (piece base child : ℕ → Bool) (f : ℕ → ℤ) (n : ℕ) → ((g : ℕ) → g < n → piece g ≡ (base g || child g)) → ((g : ℕ) → g < n → base g ≡ true → child g ≡ false) → set_sum piece f n ≡ set_sum base f n +ℤ set_sum child f n
-whole_sum piece base child f zero parts apart = refl
-whole_sum piece base child f (suc n) parts apart =
-    omega (arith, ints, whole_sum piece base child f n (λ g l. parts g (omega arith)) (λ g l. apart g (omega arith)), here (piece n) (base n) (child n) (parts n (omega arith)) (apart n (omega arith))) where
-      here : (x u w : Bool) → x ≡ (u || w) → (u ≡ true → w ≡ false) → cond x (f n) (pos 0) ≡ cond u (f n) (pos 0) +ℤ cond w (f n) (pos 0)
-      here x true true p d = absurd (cc (d refl))
-      here x true false p d = rw p (omega (arith, ints))
-      here x false true p d = rw p (omega (arith, ints))
-      here x false false p d = rw p (omega (arith, ints))
 
 no_sum : (piece : ℕ → Bool) (f : ℕ → ℤ) (n : ℕ) → ((g : ℕ) → g < n → piece g ≡ true → ⊥) → set_sum piece f n ≡ pos 0
 no_sum piece f zero none = refl
@@ -122,10 +112,10 @@ module _ {P : Type 0} (IsPoolOf : P → List Row → Type 0) (m : Meaning) (stri
     both_each = All-append IsRowWithinLimits hu.rows hl.rows hu.each hl.each
 
     both_weight : pos (total_weight (hu.rows ++ hl.rows)) ≡ set_sum piece (λ g. pos (total_weight ((problem_of groups pairs no_bounds).rows g))) (length groups)
-    both_weight = omega (arith, ints, weights_add hu.rows hl.rows, hu.weight, hl.weight, whole_sum piece base child (λ g. pos (total_weight ((problem_of groups pairs no_bounds).rows g))) (length groups) parts apart)
+    both_weight = omega (arith, ints, weights_add hu.rows hl.rows, hu.weight, hl.weight, set_sum-both piece base child (λ g. pos (total_weight ((problem_of groups pairs no_bounds).rows g))) (length groups) parts apart)
 
     both_special : pos (special_count (hu.rows ++ hl.rows)) ≡ set_sum piece (λ g. pos (special_count ((problem_of groups pairs no_bounds).rows g))) (length groups)
-    both_special = omega (arith, ints, specials_add hu.rows hl.rows, hu.special, hl.special, whole_sum piece base child (λ g. pos (special_count ((problem_of groups pairs no_bounds).rows g))) (length groups) parts apart)
+    both_special = omega (arith, ints, specials_add hu.rows hl.rows, hu.special, hl.special, set_sum-both piece base child (λ g. pos (special_count ((problem_of groups pairs no_bounds).rows g))) (length groups) parts apart)
 
     pub both_fittable : AreFittable (hu.rows ++ hl.rows)
     both_fittable = piece_fittable groups pairs piece (hu.rows ++ hl.rows) fit both_each both_weight both_special
@@ -142,8 +132,8 @@ module _ {P : Type 0} (IsPoolOf : P → List Row → Type 0) (m : Meaning) (stri
         each = both_each;
         weight = both_weight;
         special = both_special;
-        least = λ b lb. (laws.sums hu.rows hl.rows both_fittable).least b.num b.den lb ∙ pair (hu.least b lb) (hl.least b lb) ∙ sym (whole_sum piece base child (least_at m (problem_of groups pairs no_bounds) b) (length groups) parts apart);
-        greatest = λ b lb. (laws.sums hu.rows hl.rows both_fittable).greatest b.num b.den lb ∙ pair (hu.greatest b lb) (hl.greatest b lb) ∙ sym (whole_sum piece base child (greatest_at m (problem_of groups pairs no_bounds) b) (length groups) parts apart);
+        least = λ b lb. (laws.sums hu.rows hl.rows both_fittable).least b.num b.den lb ∙ pair (hu.least b lb) (hl.least b lb) ∙ sym (set_sum-both piece base child (least_at m (problem_of groups pairs no_bounds) b) (length groups) parts apart);
+        greatest = λ b lb. (laws.sums hu.rows hl.rows both_fittable).greatest b.num b.den lb ∙ pair (hu.greatest b lb) (hl.greatest b lb) ∙ sym (set_sum-both piece base child (greatest_at m (problem_of groups pairs no_bounds) b) (length groups) parts apart);
       },
       refl,
     ) where

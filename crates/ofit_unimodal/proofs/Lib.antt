@@ -1,5 +1,9 @@
-pub mod RowValues
 pub mod UmbrellaTree
-pub mod Whole
 pub mod SplitBounds
 pub mod Joined
+pub mod SideBounds
+pub mod JoinedSides
+pub mod SplitCosts
+pub mod Cheapest
+pub mod UmbrellaFit
+pub mod Made

@@ -1,3 +1,4 @@
-pub mod Values
 pub mod Umbrella
 pub mod Splits
+pub mod Costs
+pub mod Fitted

@@ -1,17 +1,8 @@
 ghost use Rattle.std.specs.Prelude.{◌<◌, ◌≤◌, ℕ, suc, ◌≤ℤ◌};
-ghost use Rattle.ofit_num.specs.Loss.{median};
 ghost use Rattle.ofit_num.specs.Problem.{Problem};
-ghost use Rattle.ofit_num.specs.Settled.{IsLeastSettled};
 ghost use Rattle.ofit_num.specs.Trial.{Trial};
-ghost use Rattle.ofit_sheet.specs.Unimodal.{HasNoBounds, IsUnimodal};
+ghost use Rattle.ofit_sheet.specs.Unimodal.{IsUnimodal};
 ghost use Rattle.ofit_unimodal.specs.Splits.{BoundsRises, BoundsFalls, CostsSplit, HasPeakAt};
-ghost use Rattle.ofit_unimodal.specs.Values.{IsRowValue};
-
-/// Where no group has a bound, each value of a least settled trial under the median is the value of a
-/// row of a group that has it: or else all groups that have it could be lowered together at no cost.
-pub fn least_medians_are_row_values()
-    ensures { (s : Problem) (t : Trial) → HasNoBounds s → IsLeastSettled median s t → (g : ℕ) → g < s.count → IsRowValue s t g }
-{}
 
 /// A trial that is unimodal with a peak costs no less than the rise of the groups before the peak with
 /// the fall of those from it on, and no less than the rise of those up to the peak with the fall of

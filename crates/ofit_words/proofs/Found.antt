@@ -2,17 +2,18 @@
 use Rattle.std.proofs.Common.{◌≡◌, ℕ, ◌+◌, length, List, [], ◌∷◌, ◌++◌, refl, sym, ap, ◌∙◌, subst, append_assoc, inl, inr}
 use Rattle.std.proofs.lemmas.List.{append-nil}
 use Rattle.std.specs.Prelude.{false, IfOk, Result, Ok, Err, IsErrOf, ◌⊎◌}
+use Rattle.std.specs.Result.{IsErr, IsErrAnd}
 use Rattle.ofit_words.specs.declared.command.Command.{Command}
 use Rattle.ofit_words.specs.declared.command.Command.TheVariants as commands
 use Rattle.ofit_words.specs.declared.key.Key.{Key}
 use Rattle.ofit_words.specs.declared.job.Job.{Job}
 use Rattle.ofit_words.specs.declared.fault.WordFault.{WordFault}
-use Rattle.ofit_words.specs.declared.fault.WordFault.TheVariants.{NoCommand, UnknownCommand, MissingName, LevelOutOfRange, UnknownSetting, RepeatedSetting, BadSetting, BoundsCross, Memory}
+use Rattle.ofit_words.specs.declared.fault.WordFault.TheVariants.{LevelOutOfRange, UnknownSetting, RepeatedSetting, BadSetting, BoundsCross, Memory}
 use Rattle.ofit_words.specs.Commands.{command_name, name_count, has_key, Sets}
 use Rattle.ofit_words.specs.Given.{AreInForce, IsUnknown, IsFine, AreFine}
 use Rattle.ofit_words.specs.Judged.{Judged, HasFault, UnlessMemory}
 use Rattle.ofit_words.specs.Words.{FirstAt, IsCall, WordsRead, IsJobInLimits}
-use Rattle.ofit_words.specs.Made.{JobMade, InputsMade, IsNoLevel}
+use Rattle.ofit_words.specs.Made.{JobMade, IsNoLevel}
 use Rattle.ofit_words.proofs.Settled.{one_setting, not_false}
 
 -- a key that the command doesn't have makes the word an unknown one
@@ -27,14 +28,12 @@ fine_more command places groups before (w ∷ ws) word f h =
 
 pub unless : (fault : WordFault) (P : Type 0) → P → UnlessMemory fault P
 unless Memory P h = tt
-unless NoCommand P h = h
-unless UnknownCommand P h = h
-unless MissingName P h = h
-unless LevelOutOfRange P h = h
-unless (UnknownSetting place) P h = h
-unless (RepeatedSetting place) P h = h
-unless (BadSetting place) P h = h
-unless BoundsCross P h = h
+unless other P h = h
+
+-- what holds of a fault holds where it is passed on
+pub passed_on : {X : Type 0} (r : Result X WordFault) (fault : WordFault) (P : Result X WordFault → Type 0) → IsErr r → IsErrAnd r (λ f. f ≡ fault) → P (Err fault) → P r
+passed_on (Ok x) fault P i a p = absurd (cc)
+passed_on {X} (Err f) fault P i a p = subst (λ (t : WordFault). P (Err t)) (sym a) p
 
 moved : (words : List (List ℕ)) (command : Command) (names ss ts : List (List ℕ)) → ss ≡ ts → IsCall words command names ss → IsCall words command names ts
 moved words command names ss ts e h = let P : List (List ℕ) → Type 0 = IsCall words command names in subst P e h
@@ -58,17 +57,13 @@ first_at fault words command names ss places groups place c f h at = record {
 pub fault_of_words : (fault : WordFault) (words : List (List ℕ)) (command : Command) (names ss : List (List ℕ)) (places groups : ℕ) → IsCall words command names ss → AreInForce ss places groups
     → UnlessMemory fault (HasFault command places groups ss fault) → IsErrOf {T = Job} (Err fault) Memory ⊎ WordsRead words (Err fault)
 fault_of_words Memory words command names ss places groups c f h = inl refl
-fault_of_words NoCommand words command names ss places groups c f h = absurd h.judged
-fault_of_words UnknownCommand words command names ss places groups c f h = absurd h.judged
-fault_of_words MissingName words command names ss places groups c f h = absurd h.judged
-fault_of_words LevelOutOfRange words command names ss places groups c f h = absurd h.judged
-fault_of_words BoundsCross words command names ss places groups c f h = absurd h.judged
 fault_of_words (UnknownSetting n) words command names ss places groups c f h =
     inr (command, places, groups, h.before, h.word, first_at (UnknownSetting n) words command names ss places groups n c f h h.judged.0, h.judged.1)
 fault_of_words (RepeatedSetting n) words command names ss places groups c f h =
     inr (command, places, groups, h.before, h.word, first_at (RepeatedSetting n) words command names ss places groups n c f h h.judged.0, h.judged.1)
 fault_of_words (BadSetting n) words command names ss places groups c f h =
     inr (command, places, groups, h.before, h.word, first_at (BadSetting n) words command names ss places groups n c f h h.judged.0, h.judged.1)
+fault_of_words other words command names ss places groups c f h = absurd h.judged
 
 -- a level that isn't one
 pub no_level_of_words : (words : List (List ℕ)) (command : Command) (names ss : List (List ℕ)) → words ≡ command_name command ∷ (names ++ ss) → IsNoLevel command names → WordsRead words (Err LevelOutOfRange)
@@ -80,28 +75,12 @@ pub made_of_words : (r : Result Job WordFault) (words : List (List ℕ)) (comman
 made_of_words (Ok job) words command names ss places groups c f a h = inr (command, names, ss, record { places = places; groups = groups; call = c; in_force = f; fine = a }, h.0)
 made_of_words (Err BoundsCross) words command names ss places groups c f a h = inr (command, names, ss, h.0, record { places = places; groups = groups; call = c; in_force = f; fine = a }, h.1, h.2)
 made_of_words (Err Memory) words command names ss places groups c f a h = inl refl
-made_of_words (Err NoCommand) words command names ss places groups c f a h = absurd h
-made_of_words (Err UnknownCommand) words command names ss places groups c f a h = absurd h
-made_of_words (Err MissingName) words command names ss places groups c f a h = absurd h
 made_of_words (Err LevelOutOfRange) words command names ss places groups c f a h = inr (no_level_of_words words command names ss c.spells h)
-made_of_words (Err (UnknownSetting n)) words command names ss places groups c f a h = absurd h
-made_of_words (Err (RepeatedSetting n)) words command names ss places groups c f a h = absurd h
-made_of_words (Err (BadSetting n)) words command names ss places groups c f a h = absurd h
+made_of_words (Err other) words command names ss places groups c f a h = absurd h
 
 pub limits_of_made : (r : Result Job WordFault) (command : Command) (names ss : List (List ℕ)) → JobMade command names ss r → IfOk r IsJobInLimits
 limits_of_made (Ok job) command names ss h = h.1
 limits_of_made (Err f) command names ss h = tt
-
-pub fault_of_inputs : (fault : WordFault) (table : List ℕ) (command : Command) (names ss : List (List ℕ)) → InputsMade table ss (Err fault) → JobMade command names ss (Err fault)
-fault_of_inputs BoundsCross table command names ss h = h
-fault_of_inputs Memory table command names ss h = tt
-fault_of_inputs NoCommand table command names ss h = absurd h
-fault_of_inputs UnknownCommand table command names ss h = absurd h
-fault_of_inputs MissingName table command names ss h = absurd h
-fault_of_inputs LevelOutOfRange table command names ss h = absurd h
-fault_of_inputs (UnknownSetting n) table command names ss h = absurd h
-fault_of_inputs (RepeatedSetting n) table command names ss h = absurd h
-fault_of_inputs (BadSetting n) table command names ss h = absurd h
 
 pub judged_moved : (A : Type 0) (fault : WordFault) (command : Command) (places groups : ℕ) (b d : List (List ℕ)) (v w : List ℕ) (n m : ℕ) → b ≡ d → v ≡ w → n ≡ m
     → Judged {A = A} command places groups b v n (Err fault) → Judged {A = A} command places groups d w m (Err fault)

@@ -2,7 +2,7 @@
 use Rattle.std.specs.Prelude.{◌≡◌, ℕ, ◌+◌, List, [], ◌∷◌, ◌++◌, length, Result, Ok, Err, ⊤}
 use Rattle.ofit_words.specs.declared.command.Command.{Command}
 use Rattle.ofit_words.specs.declared.fault.WordFault.{WordFault}
-use Rattle.ofit_words.specs.declared.fault.WordFault.TheVariants.{NoCommand, UnknownCommand, MissingName, LevelOutOfRange, UnknownSetting, RepeatedSetting, BadSetting, BoundsCross, Memory}
+use Rattle.ofit_words.specs.declared.fault.WordFault.TheVariants.{UnknownSetting, RepeatedSetting, BadSetting, Memory}
 use Rattle.ofit_words.specs.Commands.{name_count}
 use Rattle.ofit_words.specs.Given.{IsUnknown, IsRepeated, IsBad, IsFine, AreFine}
 
@@ -12,12 +12,8 @@ Judged command places groups before word place (Ok x) = IsFine command places gr
 Judged command places groups before word place (Err (UnknownSetting n)) = (n ≡ place) × IsUnknown command word
 Judged command places groups before word place (Err (RepeatedSetting n)) = (n ≡ place) × IsRepeated command before word
 Judged command places groups before word place (Err (BadSetting n)) = (n ≡ place) × IsBad command places groups before word
-Judged command places groups before word place (Err NoCommand) = ⊥
-Judged command places groups before word place (Err UnknownCommand) = ⊥
-Judged command places groups before word place (Err MissingName) = ⊥
-Judged command places groups before word place (Err LevelOutOfRange) = ⊥
-Judged command places groups before word place (Err BoundsCross) = ⊥
 Judged command places groups before word place (Err Memory) = ⊤
+Judged command places groups before word place (Err other) = ⊥
 
 -- the first setting with a fault, and this one
 pub record HasFault (command : Command) (places groups : ℕ) (words : List (List ℕ)) (fault : WordFault) : Type 0 where
@@ -30,14 +26,7 @@ pub record HasFault (command : Command) (places groups : ℕ) (words : List (Lis
 
 abbrev pub UnlessMemory : WordFault → Type 0 → Type 0
 UnlessMemory Memory P = ⊤
-UnlessMemory NoCommand P = P
-UnlessMemory UnknownCommand P = P
-UnlessMemory MissingName P = P
-UnlessMemory LevelOutOfRange P = P
-UnlessMemory (UnknownSetting place) P = P
-UnlessMemory (RepeatedSetting place) P = P
-UnlessMemory (BadSetting place) P = P
-UnlessMemory BoundsCross P = P
+UnlessMemory other P = P
 
 -- what is found of all of the settings
 abbrev pub Checked : {A : Type 0} → Command → ℕ → ℕ → List (List ℕ) → Result A WordFault → Type 0

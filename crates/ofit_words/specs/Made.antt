@@ -7,7 +7,7 @@ use Rattle.ofit_words.specs.declared.command.Command.TheVariants as commands
 use Rattle.ofit_words.specs.declared.job.Inputs.{Inputs}
 use Rattle.ofit_words.specs.declared.job.Job.{Job}
 use Rattle.ofit_words.specs.declared.fault.WordFault.{WordFault}
-use Rattle.ofit_words.specs.declared.fault.WordFault.TheVariants.{NoCommand, UnknownCommand, MissingName, LevelOutOfRange, UnknownSetting, RepeatedSetting, BadSetting, BoundsCross, Memory}
+use Rattle.ofit_words.specs.declared.fault.WordFault.TheVariants.{LevelOutOfRange, BoundsCross, Memory}
 use Rattle.ofit_words.specs.Values.{IsNumberIn}
 use Rattle.ofit_words.specs.Words.{SettingsOf, Cross, InputsOf, IsJob, IsJobInLimits}
 
@@ -23,22 +23,11 @@ abbrev pub InputsMade : List ℕ → List (List ℕ) → Result Inputs WordFault
 InputsMade table words (Ok inputs) = InputsOf table words inputs × InLimits inputs.settings
 InputsMade table words (Err BoundsCross) = DoCross words
 InputsMade table words (Err Memory) = ⊤
-InputsMade table words (Err NoCommand) = ⊥
-InputsMade table words (Err UnknownCommand) = ⊥
-InputsMade table words (Err MissingName) = ⊥
-InputsMade table words (Err LevelOutOfRange) = ⊥
-InputsMade table words (Err (UnknownSetting place)) = ⊥
-InputsMade table words (Err (RepeatedSetting place)) = ⊥
-InputsMade table words (Err (BadSetting place)) = ⊥
+InputsMade table words (Err other) = ⊥
 
 abbrev pub JobMade : Command → List (List ℕ) → List (List ℕ) → Result Job WordFault → Type 0
 JobMade c names words (Ok job) = IsJob c names words job × IsJobInLimits job
 JobMade c names words (Err BoundsCross) = DoCross words
 JobMade c names words (Err Memory) = ⊤
-JobMade c names words (Err NoCommand) = ⊥
-JobMade c names words (Err UnknownCommand) = ⊥
-JobMade c names words (Err MissingName) = ⊥
 JobMade c names words (Err LevelOutOfRange) = IsNoLevel c names
-JobMade c names words (Err (UnknownSetting place)) = ⊥
-JobMade c names words (Err (RepeatedSetting place)) = ⊥
-JobMade c names words (Err (BadSetting place)) = ⊥
+JobMade c names words (Err other) = ⊥

@@ -126,27 +126,15 @@ fn job_of(
     ensures { JobMade command (map string_bytes names.now) words result }
 {
     match command {
-        Command::Fit => match inputs_of(alloc, &names[0], force, given) {
-            Ok(inputs) => Ok(Job::Fit(inputs)),
-            Err(fault) => Err(fault),
-        },
-        Command::Report => match inputs_of(alloc, &names[0], force, given) {
-            Ok(inputs) => Ok(Job::Report(inputs)),
-            Err(fault) => Err(fault),
-        },
+        Command::Fit => Ok(Job::Fit(inputs_of(alloc, &names[0], force, given)?)),
+        Command::Report => Ok(Job::Report(inputs_of(alloc, &names[0], force, given)?)),
         Command::Verify => {
             let sheet = Text::copy_of(alloc, names[1].as_str())?;
-            match inputs_of(alloc, &names[0], force, given) {
-                Ok(inputs) => Ok(Job::Verify(inputs, sheet)),
-                Err(fault) => Err(fault),
-            }
+            Ok(Job::Verify(inputs_of(alloc, &names[0], force, given)?, sheet))
         }
         Command::Session => {
             let script = Text::copy_of(alloc, names[1].as_str())?;
-            match inputs_of(alloc, &names[0], force, given) {
-                Ok(inputs) => Ok(Job::Session(inputs, script)),
-                Err(fault) => Err(fault),
-            }
+            Ok(Job::Session(inputs_of(alloc, &names[0], force, given)?, script))
         }
         Command::Unimodal => {
             Ok(Job::Unimodal(Text::copy_of(alloc, names[0].as_str())?, force.places))
@@ -201,8 +189,6 @@ fn read_call(alloc: Global, command: Command, words: &[String]) -> Result<Job, W
         return Err(WordFault::LevelOutOfRange);
     }
     let force = in_force(given);
-    match read_settings(alloc, command, force, given) {
-        Ok(settings) => job_of(alloc, command, names, force, settings),
-        Err(fault) => Err(fault),
-    }
+    let settings = read_settings(alloc, command, force, given)?;
+    job_of(alloc, command, names, force, settings)
 }

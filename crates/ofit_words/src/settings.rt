@@ -55,10 +55,7 @@ pub(crate) fn read_settings(
     for at in 0..words.len() {
         let word = words[at].as_str();
         let place = (first + at) as u32;
-        let setting = match read_setting(alloc, command, force, settings.as_slice(), word, place) {
-            Ok(setting) => setting,
-            Err(fault) => return Err(fault),
-        };
+        let setting = read_setting(alloc, command, force, settings.as_slice(), word, place)?;
         keep(&mut settings, setting)?;
     }
     Ok(settings)

@@ -1,4 +1,5 @@
 ghost use Rattle.std.specs.Prelude.{◌≡◌, ◌≤◌, length};
+ghost use Rattle.ofit_sheet.specs.declared.peaked.limits.TheConstants.{MOST_PEAK_GROUPS};
 ghost use Rattle.ofit_sheet.specs.Peaked.{IsShaped};
 ghost use Rattle.ofit_sheet.specs.PeakVerdict.{IsPeakVerdict};
 ghost use Rattle.ofit_study.specs.Study.{names_of, problem_stated};
@@ -14,7 +15,7 @@ use ofit_study::Study;
 
 /// The first thing that is wrong with a peaked sheet of this study, or that it passes.
 fn first_fault(study: &Study, peaked: &Peaked) -> PeakVerdict
-    requires few { length (names_of study.now) ≤ 200 }
+    requires few { length (names_of study.now) ≤ MOST_PEAK_GROUPS }
     requires shaped { IsShaped (length (names_of study.now)) peaked.now }
     ensures { IsPeakVerdict (problem_stated study.now) study.now.settings.places peaked.now (peak_told result) }
 {
@@ -46,7 +47,7 @@ fn first_fault(study: &Study, peaked: &Peaked) -> PeakVerdict
 /// For n groups and r rows it takes O(n (n + r)) steps and no memory. Amounts along a chain certify a
 /// side (Robertson, Wright and Dykstra, Order Restricted Statistical Inference, 1988, chapter 1).
 pub fn verdict_unimodal(study: &Study, peaked: &Peaked) -> PeakVerdict
-    requires few { length (names_of study.now) ≤ 200 }
+    requires few { length (names_of study.now) ≤ MOST_PEAK_GROUPS }
     requires shaped { IsShaped (length (names_of study.now)) peaked.now }
     ensures verdict { IsPeakVerdict (problem_stated study.now) study.now.settings.places peaked.now (peak_told result) }
     ensures best { result ≡ Passes → IsBestOfPeaks (problem_stated study.now) peaked.now }

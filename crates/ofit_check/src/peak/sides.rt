@@ -1,4 +1,5 @@
 ghost use Rattle.std.specs.Prelude.{◌≤◌, ◌+◌, length};
+ghost use Rattle.ofit_sheet.specs.declared.peaked.limits.TheConstants.{MOST_PEAK_GROUPS};
 ghost use Rattle.ofit_sheet.specs.Peaked.{IsShaped};
 ghost use Rattle.ofit_sheet.specs.PeakVerdict.{IsReached};
 ghost use Rattle.ofit_study.specs.Study.{names_of, problem_stated};
@@ -13,7 +14,7 @@ use ofit_study::Study;
 
 /// The first rise that breaks a rule of sides, and the place of its first group that does.
 pub(crate) fn first_bad_rise(study: &Study, peaked: &Peaked) -> Option<(u32, u32)>
-    requires few { length (names_of study.now) ≤ 200 }
+    requires few { length (names_of study.now) ≤ MOST_PEAK_GROUPS }
     requires shaped { IsShaped (length (names_of study.now)) peaked.now }
     ensures { IsFirstRise (problem_stated study.now) peaked.now result }
 {
@@ -29,7 +30,7 @@ pub(crate) fn first_bad_rise(study: &Study, peaked: &Peaked) -> Option<(u32, u32
 
 /// The first fall that breaks a rule of sides, and the place of its first group that does.
 pub(crate) fn first_bad_fall(study: &Study, peaked: &Peaked) -> Option<(u32, u32)>
-    requires few { length (names_of study.now) ≤ 200 }
+    requires few { length (names_of study.now) ≤ MOST_PEAK_GROUPS }
     requires shaped { IsShaped (length (names_of study.now)) peaked.now }
     ensures { IsFirstFall (problem_stated study.now) peaked.now result }
 {
@@ -47,7 +48,7 @@ pub(crate) fn first_bad_fall(study: &Study, peaked: &Peaked) -> Option<(u32, u32
 /// The first number of groups whose rise costs together with the fall of the others less than is
 /// printed.
 pub(crate) fn first_not_least(study: &Study, peaked: &Peaked) -> Option<u32>
-    requires few { length (names_of study.now) ≤ 200 }
+    requires few { length (names_of study.now) ≤ MOST_PEAK_GROUPS }
     requires shaped { IsShaped (length (names_of study.now)) peaked.now }
     ensures { IsFirstFailure (IsReached (problem_stated study.now) peaked.now) (length (names_of study.now) + 1) result }
 {

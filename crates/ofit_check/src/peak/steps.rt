@@ -1,4 +1,5 @@
 ghost use Rattle.std.specs.Prelude.{◌≡◌, ◌↔◌, ◌+◌, ◌<◌, ◌≤◌, ◌^◌, All, IsTrue, length, pos, ◌≤ℤ◌, ◌-ℤ◌};
+ghost use Rattle.ofit_sheet.specs.declared.peaked.limits.TheConstants.{MOST_PEAK_GROUPS};
 ghost use Rattle.ofit_sheet.specs.PeakVerdict.{value_at, amount_at, amount_before, IsInSpan, JoinsEqual};
 ghost use Rattle.ofit_loss.specs.Rows.{AreFittable};
 ghost use Rattle.ofit_study.specs.Study.{names_of, problem_stated};
@@ -108,7 +109,7 @@ fn is_balanced(study: &Study, slope: Slope, place: u32, side: &Side, index: u32)
     requires amounts { All (λ step. pos 0 ≤ℤ step.1) side.now }
     ensures { IsTrue result ↔ IsInSpan ((problem_stated study.now).rows place) (value_at side.now index) (step_balance slope side.now index) }
 {
-    let _groups = study.group_count();
+    study.keeps_limits();
     let (value, _) = side.step(index);
     is_in_span(study.rows_of(place), value, balance_of(slope, side, index))
 }
@@ -138,7 +139,7 @@ pub(crate) fn first_broken(
     side: &Side,
     steps: u32,
 ) -> Option<u32>
-    requires few { length (names_of study.now) ≤ 200 }
+    requires few { length (names_of study.now) ≤ MOST_PEAK_GROUPS }
     requires steps { length side.now ≡ steps }
     requires amounts { All (λ step. pos 0 ≤ℤ step.1) side.now }
     requires within { start + steps ≤ length (names_of study.now) }

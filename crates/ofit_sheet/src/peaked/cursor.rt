@@ -1,5 +1,6 @@
 ghost use Rattle.std.specs.Prelude.{◌≡◌, ◌<◌, ◌+◌, ◌^◌, ◌∷◌, [], length, pos};
 ghost use Rattle.csv.specs.Records.{fields_of};
+ghost use Rattle.ofit_num.specs.declared.limits.TheConstants.{MOST_GROUPS};
 ghost use Rattle.ofit_study.specs.Study.{names_of};
 ghost use Rattle.ofit_sheet.specs.Slots.{peak_slot, value_slot, side_slot, step_slot, last_slot, end_slot};
 ghost use Rattle.ofit_sheet.specs.PeakedRead.{peak_item, value_item, side_item, step_item, end_item};
@@ -122,7 +123,7 @@ pub(crate) fn take_side_header(
     index: u32,
 ) -> Result<(), SheetFault>
     requires room { cursor.old.number + length cursor.old.records < 2 ^ 32 }
-    requires index { index < 2000 }
+    requires index { index < MOST_GROUPS }
     ensures { PartRead (names_of study.now) (side_slot slope index ∷ []) (λ u. side_item ∷ []) cursor.old.number cursor.old.records cursor.new.number cursor.new.records result }
 {
     advance(cursor)?;

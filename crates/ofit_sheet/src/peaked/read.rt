@@ -3,6 +3,7 @@ ghost use Rattle.std.specs.List.{flat_map, range_with_len};
 ghost use Rattle.ofit_num.specs.declared.limits.TheConstants.{LONGEST_FILE};
 ghost use Rattle.ofit_records.specs.Records.{records_of};
 ghost use Rattle.ofit_study.specs.Study.{names_of};
+ghost use Rattle.ofit_sheet.specs.declared.peaked.limits.TheConstants.{MOST_PEAK_GROUPS};
 ghost use Rattle.ofit_sheet.specs.Peaked.{IsShaped, IsSide};
 ghost use Rattle.ofit_sheet.specs.Slots.{step_slot, value_slots, step_slots, side_slots, sides_slots, steps_before_last, slots};
 ghost use Rattle.ofit_sheet.specs.PeakedRead.{step_told, value_item, side_items, items_of, PeakedRead};
@@ -188,7 +189,7 @@ fn read_records(alloc: Global, cursor: &mut Cursor<'_>, study: &Study) -> Result
 /// Expected time linear in the bytes, and memory linear in the sheet.
 pub fn read_peaked(alloc: Global, bytes: &[u8], study: &Study) -> Result<Peaked, SheetFault>
     requires length { length bytes.now ≤ LONGEST_FILE }
-    requires few { length (names_of study.now) ≤ 200 }
+    requires few { length (names_of study.now) ≤ MOST_PEAK_GROUPS }
     ensures read { PeakedRead (names_of study.now) (records_of bytes.now) result }
     ensures shaped { IfOk result (IsShaped (length (names_of study.now))) }
 {

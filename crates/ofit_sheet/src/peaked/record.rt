@@ -1,5 +1,6 @@
 ghost use Rattle.std.specs.Prelude.{◌≡◌, ◌↔◌, ◌<◌, ◌∷◌, [], ℕ, List, IsTrue, MatchOption, Some, slice_get, length, pos};
 ghost use Rattle.csv.specs.Records.{fields_of};
+ghost use Rattle.ofit_num.specs.declared.limits.TheConstants.{MOST_GROUPS};
 ghost use Rattle.ofit_study.specs.Study.{names_of};
 ghost use Rattle.ofit_sheet.specs.Slots.{peak_slot, value_slot, side_slot, step_slot, last_slot, end_slot};
 ghost use Rattle.ofit_sheet.specs.PeakedRead.{peak_item, value_item, side_item, step_item, end_item, IsPeakedHeader};
@@ -8,19 +9,12 @@ ghost use Rattle.ofit_sheet.specs.PeakedSteps.{SlotRead};
 use crate::fault::RecordFault;
 use crate::fields::four_of;
 use crate::numeral::{both, is, read_count, read_number};
+use crate::peaked::limits::MOST_COST;
 use crate::peaked::slope::Slope;
 use csv::ByteRecord;
 use itoa::Buffer;
-use ofit_study::Study;
-
-/// The greatest absolute value of a value, in units.
-const MOST_UNITS: u128 = 1_000_000_000;
-
-/// The greatest cost.
-const MOST_COST: u128 = 1_000_000_000_000_000_000_000_000_000_000;
-
-/// The greatest amount of a step.
-const MOST_AMOUNT: u128 = 2_000_000_000_000_000_000_000_000_000_000_000;
+use ofit_num::{MOST_AMOUNT, MOST_UNITS};
+use ofit_study::{LossKind, Study};
 
 /// The decimal places that a header tells.
 pub(crate) fn places_of(row: &ByteRecord) -> Option<u32>
@@ -31,7 +25,7 @@ pub(crate) fn places_of(row: &ByteRecord) -> Option<u32>
     };
     if !is(fields.kind, b"ofit-peaked")
         || !is(fields.first, b"1")
-        || !is(fields.second, b"median")
+        || !is(fields.second, LossKind::Median.name())
     {
         return None;
     }
@@ -76,7 +70,7 @@ fn no_peak(study: &Study, row: &ByteRecord) -> Result<(Option<u32>, u128), Recor
     requires { length (names_of study.now) ≡ 0 }
     ensures { SlotRead (names_of study.now) peak_slot (fields_of row.now) (λ p. peak_item p.0 p.1) result }
 {
-    let _groups = study.group_count();
+    study.keeps_limits();
     if has_fields(row, b"peak", b"-", b"0", b"-") {
         Ok((None, 0))
     } else {
@@ -126,7 +120,7 @@ pub(crate) fn value_of(study: &Study, place: u32, row: &ByteRecord) -> Result<i6
     if !is(last, b"-") {
         return Err(RecordFault::Bad);
     }
-    match read_number(text, MOST_UNITS) {
+    match read_number(text, MOST_UNITS as u128) {
         Ok(value) => Ok(value as i64),
         Err(fault) => Err(fault),
     }
@@ -144,7 +138,10 @@ pub(crate) fn step_of(
     let Some((text, size)) = behind_name(row, b"step", study.group_name(place)) else {
         return Err(RecordFault::Bad);
     };
-    match both(read_number(text, MOST_UNITS), read_count(size, MOST_AMOUNT)) {
+    match both(
+        read_number(text, MOST_UNITS as u128),
+        read_count(size, MOST_AMOUNT),
+    ) {
         Ok((value, amount)) => Ok((value as i64, amount as i128)),
         Err(fault) => Err(fault),
     }
@@ -161,7 +158,7 @@ pub(crate) fn last_step_of(study: &Study, place: u32, row: &ByteRecord) -> Resul
     if !is(size, b"0") {
         return Err(RecordFault::Bad);
     }
-    match read_number(text, MOST_UNITS) {
+    match read_number(text, MOST_UNITS as u128) {
         Ok(value) => Ok(value as i64),
         Err(fault) => Err(fault),
     }
@@ -174,7 +171,7 @@ pub(crate) fn side_header_of(
     index: u32,
     row: &ByteRecord,
 ) -> Result<(), RecordFault>
-    requires { index < 2000 }
+    requires { index < MOST_GROUPS }
     ensures { SlotRead (names_of study.now) (side_slot slope index) (fields_of row.now) (λ u. side_item) result }
 {
     let _study = study;

@@ -1,7 +1,9 @@
 ghost use Rattle.std.specs.Prelude.{◌≡◌, ◌+◌, ◌<◌, ◌≤◌, ◌++◌, IfOk, OnOk, Some, slice_get, length, map, [], ◌∷◌, codes};
 ghost use Rattle.std.specs.List.{enumerate_from};
+ghost use Rattle.ofit_num.specs.declared.limits.TheConstants.{MOST_GROUPS};
 ghost use Rattle.ofit_records.specs.Written.{record_text, records_text};
 ghost use Rattle.ofit_study.specs.Study.{names_of};
+ghost use Rattle.ofit_sheet.specs.declared.peaked.limits.TheConstants.{MOST_PEAK_GROUPS};
 ghost use Rattle.ofit_sheet.specs.Peaked.{IsShaped};
 ghost use Rattle.ofit_sheet.specs.PeakedText.{sides_of, peaked_header_fields, peak_fields, peaked_value_fields, value_records, step_fields, side_start, side_fields, side_records, sides_records, peaked_text};
 ghost use Rattle.ofit_study.specs.FieldText.{dash};
@@ -11,7 +13,7 @@ use crate::peaked::side::Side;
 use crate::peaked::slope::Slope;
 use itoa::Buffer;
 use ofit_records::RecordWriter;
-use ofit_study::Study;
+use ofit_study::{LossKind, Study};
 use std::alloc::{AllocError, Global};
 
 /// Writes record 1.
@@ -22,7 +24,7 @@ fn write_header(writer: &mut RecordWriter, places: u32) -> Result<(), AllocError
     let fields: [&[u8]; 4] = [
         b"ofit-peaked",
         b"1",
-        b"median",
+        LossKind::Median.name(),
         buffer.format(places).as_bytes(),
     ];
     writer.add_record(&fields)
@@ -130,19 +132,18 @@ fn write_steps(
     requires { start + length side.now ≤ length (names_of study.now) }
     ensures { OnOk result (writer.new ≡ writer.old ++ records_text (map (step_fields (names_of study.now)) (enumerate_from start side.now))) }
 {
-    let end = study.group_count();
+    study.keeps_limits();
     let mut place = start;
     for step in side.steps() {
         write_step(writer, study, place, *step)?;
         place += 1;
     }
-    let _ = end;
     Ok(())
 }
 
 /// Writes the record before the steps of a side.
 fn write_side_header(writer: &mut RecordWriter, slope: Slope, index: u32) -> Result<(), AllocError>
-    requires { index < 2000 }
+    requires { index < MOST_GROUPS }
     ensures { OnOk result (writer.new ≡ writer.old ++ record_text (side_fields slope index)) }
 {
     let mut buffer = Buffer::new();
@@ -163,7 +164,7 @@ fn write_side(
     index: u32,
     side: &Side,
 ) -> Result<(), AllocError>
-    requires index { index < 2000 }
+    requires index { index < MOST_GROUPS }
     requires within { side_start slope index + length side.now ≤ length (names_of study.now) }
     ensures { OnOk result (writer.new ≡ writer.old ++ records_text (side_records (names_of study.now) slope (index, side.now))) }
 {
@@ -173,7 +174,7 @@ fn write_side(
 
 /// The side of a slope by its index.
 fn side_at(peaked: &Peaked, slope: Slope, index: u32) -> &Side
-    requires few { index < 2000 }
+    requires few { index < MOST_GROUPS }
     requires there { index < length (sides_of slope peaked.now) }
     ensures { slice_get (sides_of slope peaked.now) index ≡ Some result.now }
 {
@@ -201,7 +202,7 @@ fn write_sides(
 
 /// The text of a peaked sheet for a study that names its groups. Time and memory linear in the text.
 pub fn write_peaked(alloc: Global, study: &Study, peaked: &Peaked) -> Result<Vec<u8>, AllocError>
-    requires few { length (names_of study.now) ≤ 200 }
+    requires few { length (names_of study.now) ≤ MOST_PEAK_GROUPS }
     requires shaped { IsShaped (length (names_of study.now)) peaked.now }
     ensures { IfOk result (λ text. text.items ≡ peaked_text (names_of study.now) peaked.now) }
 {

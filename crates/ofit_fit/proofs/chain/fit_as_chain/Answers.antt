@@ -8,21 +8,17 @@ use Rattle.std.specs.List.{Contains}
 use Rattle.ofit_num.specs.Fraction.{Fraction}
 use Rattle.ofit_num.specs.declared.frac.Frac.{Frac}
 use Rattle.ofit_num.specs.Fit.{LeastBestValues}
-use Rattle.ofit_order.specs.Relation.{AreInOrder}
-use Rattle.ofit_order.specs.Connection.{LeadsUp}
 use Rattle.ofit_order.specs.Shape.{IsChainOf}
 use Rattle.ofit_chain.specs.Chain.{chain_problem}
+use Rattle.ofit_fit.specs.Links.{AreWholeMembers}
 use Rattle.ofit_fit.specs.Put.{ArePut}
 use Rattle.ofit_fit.proofs.Closed.{distinct_from_increasing}
 use Rattle.ofit_fit.proofs.Chained.{path_count, path_inside, path_once, path_distinct, chained}
-use Rattle.ofit_fit.proofs.Ready.{scaling, places_closed}
+use Rattle.ofit_fit.proofs.Ready.{scaling, places_closed, whole_members}
 use Rattle.ofit_fit.proofs.chain.fit_as_chain.Goals as goal
 
-pub path_of-requires-clause-in_order : goal.path_of-requires-clause-in_order
-path_of-requires-clause-in_order g c = subst AreInOrder (sym c.pairs.ensures) c.requires.study.of.in_order
-
-pub path_of-requires-clause-closed : goal.path_of-requires-clause-closed
-path_of-requires-clause-closed g c = subst (λ (ps : List (ℕ × ℕ)). (a b : ℕ) → LeadsUp ps a b → Contains c.args.members.now a ↔ Contains c.args.members.now b) (sym c.pairs.ensures) c.requires.places.closed
+pub path_of-requires-clause-whole : goal.path_of-requires-clause-whole
+path_of-requires-clause-whole g c = subst (λ (ps : List (ℕ × ℕ)). AreWholeMembers ps c.args.members.now) (sym c.pairs.ensures) (whole_members c.args.study.now c.args.order.now c.requires.study c.args.members.now c.requires.places)
 
 pub path_of-requires-clause-chain : goal.path_of-requires-clause-chain
 path_of-requires-clause-chain g c = (c.requires.chain.0, subst (λ (ps : List (ℕ × ℕ)). IsChainOf ps c.args.members.now c.requires.chain.0) (sym c.pairs.ensures) c.requires.chain.1)

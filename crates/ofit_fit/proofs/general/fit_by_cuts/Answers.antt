@@ -9,22 +9,18 @@ use Rattle.ofit_num.specs.declared.row.Row.{Row}
 use Rattle.ofit_num.specs.declared.frac.Frac.{Frac}
 use Rattle.ofit_num.specs.Limits.{all_rows}
 use Rattle.ofit_num.specs.Fit.{LeastBestValues}
-use Rattle.ofit_order.specs.Relation.{AreInOrder}
-use Rattle.ofit_order.specs.Connection.{LeadsUp}
 use Rattle.ofit_loss.specs.Rows.{AreFittable, IsPlain}
 use Rattle.ofit_study.specs.Study.{groups_of, problem_stated}
 use Rattle.ofit_partition.specs.Piece.{partition_problem}
+use Rattle.ofit_fit.specs.Links.{AreWholeMembers}
 use Rattle.ofit_fit.proofs.Closed.{distinct_from_increasing}
 use Rattle.ofit_fit.proofs.Taken.{taken_fittable}
-use Rattle.ofit_fit.proofs.Ready.{few_members, scaling, places_closed}
+use Rattle.ofit_fit.proofs.Ready.{few_members, scaling, places_closed, whole_members}
 use Rattle.ofit_fit.proofs.Generals.{taken_each, between_places, fitted_between}
 use Rattle.ofit_fit.proofs.general.fit_by_cuts.Goals as goal
 
-pub pairs_between-requires-clause-in_order : goal.pairs_between-requires-clause-in_order
-pairs_between-requires-clause-in_order g c = subst AreInOrder (sym c.pairs.ensures) c.requires.study.of.in_order
-
-pub pairs_between-requires-clause-closed : goal.pairs_between-requires-clause-closed
-pairs_between-requires-clause-closed g c = subst (λ (ps : List (ℕ × ℕ)). (a b : ℕ) → LeadsUp ps a b → Contains c.args.members.now a ↔ Contains c.args.members.now b) (sym c.pairs.ensures) c.requires.places.closed
+pub pairs_between-requires : goal.pairs_between-requires
+pairs_between-requires g c = subst (λ (ps : List (ℕ × ℕ)). AreWholeMembers ps c.args.members.now) (sym c.pairs.ensures) (whole_members c.args.study.now c.args.order.now c.requires.study c.args.members.now c.requires.places)
 
 pub partition-requires-clause-plain : goal.partition-requires-clause-plain
 partition-requires-clause-plain g c = subst (All (λ (rows : List Row). Any IsPlain rows)) (sym c.in_ok-groups.ensures) (taken_each (λ (rows : List Row). Any IsPlain rows) (groups_of c.args.study.now) c.args.members.now c.requires.study.plain c.requires.places.inside)

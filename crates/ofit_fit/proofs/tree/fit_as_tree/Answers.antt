@@ -8,25 +8,20 @@ use Rattle.ofit_num.specs.declared.row.Row.{Row}
 use Rattle.ofit_num.specs.declared.frac.Frac.{Frac}
 use Rattle.ofit_num.specs.Limits.{all_rows}
 use Rattle.ofit_num.specs.Fit.{LeastBestValues}
-use Rattle.ofit_order.specs.Relation.{AreInOrder}
-use Rattle.ofit_order.specs.Connection.{LeadsUp}
 use Rattle.ofit_order.specs.Shape.{RunsTo}
 use Rattle.ofit_loss.specs.Rows.{AreFittable}
 use Rattle.ofit_study.specs.Study.{groups_of, problem_stated}
 use Rattle.ofit_tree.specs.Tree.{tree_problem}
-use Rattle.ofit_fit.specs.Links.{AreLinks}
+use Rattle.ofit_fit.specs.Links.{AreLinks, AreWholeMembers}
 use Rattle.ofit_fit.specs.Direct.{Leads}
 use Rattle.ofit_fit.proofs.Closed.{distinct_from_increasing}
 use Rattle.ofit_fit.proofs.Taken.{taken_filled, taken_fittable}
-use Rattle.ofit_fit.proofs.Ready.{scaling, places_closed}
+use Rattle.ofit_fit.proofs.Ready.{scaling, places_closed, whole_members}
 use Rattle.ofit_fit.proofs.TreeParts.{rooted, treed}
 use Rattle.ofit_fit.proofs.tree.fit_as_tree.Goals as goal
 
-pub parents_of-requires-clause-in_order : goal.parents_of-requires-clause-in_order
-parents_of-requires-clause-in_order g c = subst AreInOrder (sym c.pairs.ensures) c.requires.study.of.in_order
-
-pub parents_of-requires-clause-closed : goal.parents_of-requires-clause-closed
-parents_of-requires-clause-closed g c = subst (λ (ps : List (ℕ × ℕ)). (a b : ℕ) → LeadsUp ps a b → Contains c.args.members.now a ↔ Contains c.args.members.now b) (sym c.pairs.ensures) c.requires.places.closed
+pub parents_of-requires : goal.parents_of-requires
+parents_of-requires g c = subst (λ (ps : List (ℕ × ℕ)). AreWholeMembers ps c.args.members.now) (sym c.pairs.ensures) (whole_members c.args.study.now c.args.order.now c.requires.study c.args.members.now c.requires.places)
 
 pub fit_tree-requires-clause-filled : goal.fit_tree-requires-clause-filled
 fit_tree-requires-clause-filled g c = subst (All (λ (rows : List Row). 0 < length rows)) (sym c.in_ok-groups.ensures) (taken_filled (groups_of c.args.study.now) c.args.members.now c.requires.study.filled c.requires.places.inside)

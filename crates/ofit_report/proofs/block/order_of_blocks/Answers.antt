@@ -2,7 +2,8 @@ use Rattle.std.proofs.Common.{◌≡◌, ◌↔◌, ◌∙◌, ℕ, length}
 use Rattle.std.specs.List.{Contains}
 use Rattle.ofit_study.specs.Study.{names_of, places_of}
 use Rattle.ofit_report.specs.Tight.{tight_among}
-use Rattle.ofit_report.specs.Blocks.{block_order, IsSameOrder}
+use Rattle.ofit_report.specs.Blocks.{block_order}
+use Rattle.ofit_report.specs.SameOrder.{IsSameOrder}
 use Rattle.ofit_report.proofs.Places.{tight_within, same_pairs}
 use Rattle.ofit_report.proofs.Results.{both_ok}
 use Rattle.ofit_report.proofs.block.order_of_blocks.Goals as goal

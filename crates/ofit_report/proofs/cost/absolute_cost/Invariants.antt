@@ -2,7 +2,7 @@ use Rattle.std.proofs.Common.{◌≡◌, ◌≤◌, ◌*◌, ◌^◌, take}
 use Rattle.std.specs.Prelude.{pos}
 use Rattle.ofit_num.specs.Limits.{total_weight}
 use Rattle.ofit_num.specs.Loss.{row_sum}
-use Rattle.ofit_report.specs.Cost.{distance}
+use Rattle.ofit_report.specs.RowSums.{distance}
 use Rattle.ofit_report.proofs.cost.absolute_cost.Given as goal
 
 abbrev pub invariant-loop-row : goal.invariant-loop-row

@@ -2,7 +2,7 @@ use Rattle.std.proofs.Common.{◌≡◌, ◌≤◌, ◌*◌, ◌^◌, take}
 use Rattle.std.specs.Int.RustNames.{unsigned_abs}
 use Rattle.ofit_num.specs.Limits.{total_weight}
 use Rattle.ofit_loss.specs.Squares.{weighted_sum}
-use Rattle.ofit_report.specs.Cost.{weighted_squares}
+use Rattle.ofit_report.specs.RowSums.{weighted_squares}
 use Rattle.ofit_report.proofs.rows.sums_of.Given as goal
 
 abbrev pub invariant-loop-row : goal.invariant-loop-row

@@ -8,6 +8,6 @@ pub returns-in-Ok-with_item : goal.returns-in-Ok-with_item
 returns-in-Ok-with_item c = λ rows items f.
     let read = c.in-Ok.ensures rows items f in (
       c.in-Ok.item,
-      record { open_yet = sym (ap (λ (t : Told). t.has_ended) f.told) ∙ c.if-draft.false; spells = read.0.0; allowed = read.0.1; within = read.1 },
+      record { open_yet = sym (ap (λ (t : Told). t.has_ended) f.told) ∙ c.if-draft.false; spells = read.0; within = read.1 },
       told_more (names_of c.args.study.now) c.args.sized rows items c.args.draft f c.in-Ok.item c.in-Ok-with_item.after read.0.1 c.in-Ok-with_item.ensures,
     )

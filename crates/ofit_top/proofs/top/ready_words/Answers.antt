@@ -11,7 +11,7 @@ returns-in_err-job-clause-ends g c =
 pub returns-in_err-ready-clause-ends : goal.returns-in_err-ready-clause-ends
 returns-in_err-ready-clause-ends g c =
     at_err c.from_residual-in_err-ready.result _ (EndsUnread (texts c.args.words.now) (g.F.Folder.held c.args.folder.now) _ _) c.from_residual-in_err-ready.ensures.1
-    (stop_unread (texts c.args.words.now) (g.F.Folder.held c.args.folder.now) (g.F.Folder.faults c.args.folder.now) (g.F.Folder.faults c.ready_from.new.folder) c.in_ok-job.job _ c.in_ok-job.ensures.read c.in_err-ready.ensures.stops c.in_err-ready.ensures.built)
+    (stop_unread (texts c.args.words.now) (g.F.Folder.held c.args.folder.now) (g.F.Folder.faults c.args.folder.now) (g.F.Folder.faults c.ready_from.new.folder) c.in_ok-job.job _ c.in_ok-job.ensures.read c.in_err-ready.ensures.stops c.in_err-ready.ensures.named)
 
 pub returns-clause-ready : goal.returns-clause-ready
 returns-clause-ready g c = record { job = c.in_ok-job.job; read = is_read (texts c.args.words.now) c.in_ok-job.job c.in_ok-job.ensures.read; given = c.in_ok-ready.ensures.ready }

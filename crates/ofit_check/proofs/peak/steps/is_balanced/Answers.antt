@@ -11,7 +11,7 @@ use Rattle.ofit_check.proofs.PeakSteps.{value_there, rows_there}
 use Rattle.ofit_check.proofs.peak.steps.is_balanced.Goals as goal
 
 pub is_in_span-requires : goal.is_in_span-requires
-is_in_span-requires c = rows_fittable c.args.study.now c.group_count-groups.ensures.valid c.args.place c.rows_of.result.now c.rows_of.ensures
+is_in_span-requires c = rows_fittable c.args.study.now c.keeps_limits.ensures.valid c.args.place c.rows_of.result.now c.rows_of.ensures
 
 pub returns : goal.returns
 returns c =

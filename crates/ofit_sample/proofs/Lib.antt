@@ -1,0 +1,9 @@
+pub mod Names
+pub mod Stepped
+pub mod Making
+pub mod Drawn
+pub mod Patterns
+pub mod Comparing
+pub mod Told
+pub mod Once
+pub mod Fitted

@@ -1,0 +1,4 @@
+pub mod Generator
+pub mod Made
+pub mod Making
+pub mod SampleText

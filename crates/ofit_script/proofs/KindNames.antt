@@ -1,0 +1,39 @@
+-- Each kind of line has a name of its own.
+use Rattle.std.proofs.Common.{◌≡◌, ℕ, ◌+◌, List, [], ◌∷◌, Some, refl, sym, ap, ◌∙◌}
+use Rattle.std.proofs.Math.Dec.{eqb}
+use Rattle.std.specs.Prelude.{Bool, true, false, slice_get}
+use Rattle.ofit_script.specs.declared.kind.Kind.{Kind}
+use Rattle.ofit_script.specs.declared.kind.Kind.TheVariants.{Add, Remove, Value, Weight, Relate, Unrelate, Report, Sheet}
+use Rattle.ofit_script.specs.Kinds.{kind_name, IsOfKind}
+
+abbrev pick : Bool → Kind → Kind → Kind
+pick true c d = c
+pick false c d = d
+
+-- no two names have one sum of their bytes
+abbrev mark : List ℕ → ℕ
+mark [] = 0
+mark (b ∷ bs) = b + mark bs
+
+abbrev marked : ℕ → Kind
+marked n = pick (eqb n 297) Add (pick (eqb n 654) Remove (pick (eqb n 541) Value (pick (eqb n 648) Weight (pick (eqb n 637) Relate (pick (eqb n 864) Unrelate (pick (eqb n 668) Report Sheet))))))
+
+back : (k : Kind) → marked (mark (kind_name k)) ≡ k
+back Add = refl
+back Remove = refl
+back Value = refl
+back Weight = refl
+back Relate = refl
+back Unrelate = refl
+back Report = refl
+back Sheet = refl
+
+one_name : (k j : Kind) → kind_name k ≡ kind_name j → k ≡ j
+one_name k j e = sym (back k) ∙ ap (λ (t : List ℕ). marked (mark t)) e ∙ back j
+
+same_field : (fields : List (List ℕ)) (a b : List ℕ) → slice_get fields 0 ≡ Some a → slice_get fields 0 ≡ Some b → a ≡ b
+same_field fields a b h k = cc
+
+-- a record is of one kind
+pub one_kind : (fields : List (List ℕ)) (k j : Kind) → IsOfKind fields k → IsOfKind fields j → k ≡ j
+one_kind fields k j h l = one_name k j (same_field fields (kind_name k) (kind_name j) h l)

@@ -1,0 +1,11 @@
+pub mod KindNames
+pub mod RecordFields
+pub mod ScriptReadings
+pub mod RowParts
+pub mod Outcomes
+pub mod OneRun
+pub mod Running
+pub mod Spelled
+pub mod NextRecord
+pub mod Printed
+pub mod Refused

@@ -1,0 +1,11 @@
+pub mod RowValues
+pub mod Whole
+pub mod Flows
+pub mod Neighbours
+pub mod OwnWhole
+pub mod FirstRows
+pub mod Ready
+pub mod Rising
+pub mod Turning
+pub mod Making
+pub mod Limited

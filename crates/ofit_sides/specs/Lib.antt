@@ -1,0 +1,5 @@
+pub mod Sides
+pub mod Values
+pub mod FirstFit
+pub mod Leaving
+pub mod Turned

@@ -1,5 +1,0 @@
-use Rattle.ofit_unimodal.proofs.RowValues.{row_value}
-use Rattle.ofit_unimodal.proofs.laws.least_medians_are_row_values.Goals as goal
-
-pub returns : goal.returns
-returns c = row_value
