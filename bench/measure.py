@@ -33,18 +33,31 @@ def built(program):
     return str(program.resolve())
 
 
+def high_water(pid):
+    """The most memory that a process has held so far, in KiB. The system's own count at its end would begin with that
+    of this script."""
+    try:
+        found = re.search(r"VmHWM:\s+(\d+)", Path(f"/proc/{pid}/status").read_text())
+    except OSError:
+        return 0
+    return int(found.group(1)) if found else 0
+
+
 def call(command, cwd):
     """What a command prints, its seconds and its peak memory; a status above 0 ends the measurement."""
     with tempfile.TemporaryFile() as out:
         begin = time.perf_counter()
         child = subprocess.Popen(command, cwd=cwd, stdout=out, stderr=subprocess.DEVNULL)
-        _, status, usage = os.wait4(child.pid, 0)
-        seconds = time.perf_counter() - begin
+        peak = 0
+        while (ended := os.wait4(child.pid, os.WNOHANG))[0] == 0:
+            peak = max(peak, high_water(child.pid))
+            time.sleep(0.0002)
+        seconds, status = time.perf_counter() - begin, ended[1]
         out.seek(0)
         text = out.read().decode()
     if status != 0:
         sys.exit(f"{' '.join(command[:2])} ended with status {os.waitstatus_to_exitcode(status)}")
-    return Call(text, seconds, usage.ru_maxrss / 1024)
+    return Call(text, seconds, peak / 1024)
 
 
 def fastest(command, cwd, rounds):
