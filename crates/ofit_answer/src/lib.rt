@@ -1,6 +1,6 @@
 //! How a run of the program ends: its answer, the exit status and the line for the error output, and
 //! the line of a verdict. The texts stand in `specs/`: `ErrorText` has the lines of answers,
-//! `VerdictText` those of verdicts.
+//! `VerdictText` and `PeakVerdictText` those of verdicts.
 #![tactic(auto)]
 
 mod answer;

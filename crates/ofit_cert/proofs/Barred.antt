@@ -8,7 +8,8 @@ use Rattle.ofit_num.specs.Fraction.{Fraction, IsLowest}
 use Rattle.ofit_num.specs.Fit.{BestValues}
 use Rattle.ofit_num.specs.Meaning.{Meaning}
 use Rattle.ofit_num.specs.Loss.{squares, median}
-use Rattle.ofit_num.specs.Problem.{Problem, HasPlaces}
+use Rattle.ofit_num.specs.Problem.{Problem}
+use Rattle.ofit_num.specs.ProblemPairs.{HasPlaces}
 use Rattle.ofit_num.specs.Sets as num
 use Rattle.ofit_num.specs.Span.{is_at}
 use Rattle.ofit_cut.specs.declared.span.Span.{Span}

@@ -9,7 +9,8 @@ use Rattle.ofit_num.specs.Fit.{BestValues}
 use Rattle.ofit_num.specs.Sheet as num
 use Rattle.ofit_num.specs.Sheet.{FitsCount, sheet_values}
 use Rattle.ofit_num.specs.Verdict.{Passes}
-use Rattle.ofit_sheet.specs.Kept.{IsFractionInLimits, ArePartsOfSheet}
+use Rattle.ofit_sheet.specs.Kept.{IsFractionInLimits}
+use Rattle.ofit_sheet.specs.Made.{ArePartsOfSheet}
 use Rattle.ofit_sheet.specs.Parts.{sheet_of}
 use Rattle.ofit_study.specs.declared.settings.Settings.{Settings}
 use Rattle.ofit_study.specs.Study.{Study, IsValid, names_of, places_of, problem_stated, meaning_of, total_weight}

@@ -5,7 +5,8 @@ use Rattle.std.proofs.lemmas.Bool.{cases_order}
 use Rattle.std.proofs.lemmas.Bool.Decides.{nat_tests, Decides-int_eq}
 use Rattle.std.specs.Prelude.{ℤ, pos, ◌+ℤ◌, ◌*ℤ◌, ◌≤ℤ◌, All, slice_get, Option, Some, None}
 use Rattle.ofit_num.specs.declared.row.Row.{Row}
-use Rattle.ofit_num.specs.Problem.{Problem, HasPlaces}
+use Rattle.ofit_num.specs.Problem.{Problem}
+use Rattle.ofit_num.specs.ProblemPairs.{HasPlaces}
 use Rattle.ofit_num.specs.Meaning.{Meaning}
 use Rattle.ofit_num.specs.Fraction.{Fraction, IsLowest}
 use Rattle.ofit_num.specs.Trial.{scale_of, value_of, trial_of}

@@ -11,7 +11,8 @@ use Rattle.ofit_num.specs.Fit.{BestValues}
 use Rattle.ofit_num.specs.Flow.{Flow}
 use Rattle.ofit_num.specs.Flow as num
 use Rattle.ofit_num.specs.Meaning.{Meaning}
-use Rattle.ofit_num.specs.Problem.{Problem, HasPlaces}
+use Rattle.ofit_num.specs.Problem.{Problem}
+use Rattle.ofit_num.specs.ProblemPairs.{HasPlaces}
 use Rattle.ofit_num.specs.Sheet.{Sheet, Size, FitsCount, sheet_value}
 use Rattle.ofit_num.specs.Span.{InOpenSpan}
 use Rattle.ofit_num.specs.Trial.{value_of, scale_of}

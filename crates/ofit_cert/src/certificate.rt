@@ -3,7 +3,8 @@ ghost use Rattle.ofit_num.specs.declared.limits.TheConstants.{MOST_GROUPS, MOST_
 ghost use Rattle.ofit_num.specs.Fit.{BestValues};
 ghost use Rattle.ofit_num.specs.Sheet.{FitsCount, sheet_values};
 ghost use Rattle.ofit_num.specs.Verdict.{Passes};
-ghost use Rattle.ofit_sheet.specs.Kept.{IsFractionInLimits, ArePartsOfSheet};
+ghost use Rattle.ofit_sheet.specs.Kept.{IsFractionInLimits};
+ghost use Rattle.ofit_sheet.specs.Made.{ArePartsOfSheet};
 ghost use Rattle.ofit_sheet.specs.Parts.{sheet_of};
 ghost use Rattle.ofit_study.specs.Study.{names_of, places_of, problem_stated, meaning_of, total_weight};
 ghost use Rattle.ofit_cert.specs.Tight.{tight_among};

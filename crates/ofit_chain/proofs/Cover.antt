@@ -8,7 +8,8 @@ use Rattle.ofit_num.specs.declared.row.Row.{Row}
 use Rattle.ofit_num.specs.Groups.{RowLists}
 use Rattle.ofit_num.specs.Problem.{Problem}
 use Rattle.ofit_num.specs.Meaning.{Meaning}
-use Rattle.ofit_num.specs.Fraction.{Fraction, AtMost, Below}
+use Rattle.ofit_num.specs.Fraction.{Fraction, AtMost}
+use Rattle.ofit_num.specs.Below.{Below}
 use Rattle.ofit_num.specs.Trial.{trial_of}
 use Rattle.ofit_num.specs.Fit.{LeastBestValues}
 use Rattle.ofit_num.specs.Settled.{IsSettled, IsLeastSettled}

@@ -10,7 +10,8 @@ use Rattle.std.specs.Prelude.{List, map, ℤ, pos, ◌+ℤ◌, ◌≤ℤ◌, ◌
 use Rattle.ofit_num.specs.Pairs.{rising_to}
 use Rattle.ofit_num.specs.Problem.{Problem}
 use Rattle.ofit_num.specs.Meaning.{Meaning}
-use Rattle.ofit_num.specs.Fraction.{Fraction, AtMost, Below}
+use Rattle.ofit_num.specs.Fraction.{Fraction, AtMost}
+use Rattle.ofit_num.specs.Below.{Below}
 use Rattle.ofit_num.specs.Law.{least_at, greatest_at, HasFallingSpans}
 use Rattle.ofit_num.specs.Sets.{set_sum, IsWithin, IsUpperIn, IsLowerIn, IsSplit}
 use Rattle.ofit_num.specs.Steep.{IsSteep}

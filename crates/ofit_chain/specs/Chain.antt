@@ -1,7 +1,8 @@
 -- The chain of groups in list order: the value of each group is at most the next one's.
 use Rattle.std.specs.Prelude.{length}
 use Rattle.ofit_num.specs.Groups.{RowLists}
-use Rattle.ofit_num.specs.Problem.{Problem, problem_of, no_bounds}
+use Rattle.ofit_num.specs.Problem.{Problem, problem_of}
+use Rattle.ofit_num.specs.Unbounded.{no_bounds}
 pub use Rattle.ofit_num.specs.Pairs.{chain_pairs}
 
 -- the groups in a chain, without bounds

@@ -2,7 +2,8 @@
 use Rattle.std.specs.Prelude.{◌≡◌, ℕ, suc, ◌+◌, ◌≤◌, Bool, not, ◌&&◌, nat_lt, List, [], ◌∷◌, ◌++◌, replicate}
 use Rattle.ofit_num.specs.Problem.{Problem}
 use Rattle.ofit_num.specs.Meaning.{Meaning}
-use Rattle.ofit_num.specs.Fraction.{Fraction, Below}
+use Rattle.ofit_num.specs.Fraction.{Fraction}
+use Rattle.ofit_num.specs.Below.{Below}
 use Rattle.ofit_num.specs.Block.{IsBlock}
 use Rattle.ofit_num.specs.Steep.{IsSteep}
 

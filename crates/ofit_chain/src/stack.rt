@@ -1,5 +1,6 @@
 ghost use Rattle.std.specs.Prelude.{◌≡◌, List, length, IfOk, OnOk, OnErr, IfSome, IfNone, vec_len, ◌++◌, [], ◌∷◌, false};
-ghost use Rattle.ofit_num.specs.Fraction.{Below, AtMost};
+ghost use Rattle.ofit_num.specs.Fraction.{AtMost};
+ghost use Rattle.ofit_num.specs.Below.{Below};
 ghost use Rattle.ofit_num.specs.Groups.{RowLists};
 ghost use Rattle.ofit_num.specs.Limits.{all_rows};
 ghost use Rattle.ofit_num.specs.Trial.{trial_of};

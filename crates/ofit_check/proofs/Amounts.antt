@@ -6,7 +6,8 @@ use Rattle.std.proofs.lemmas.List.Sums.{sum_by-cons}
 use Rattle.std.proofs.lemmas.Option.{slice_get_within, slice_get-get_or, get_or_from_slice_get, same_Some}
 use Rattle.std.specs.Prelude.{AllPairs, Contains, slice_get, Option, Some, IfSome, ◌&&◌, ◌↔◌, IsTrue}
 use Rattle.ofit_num.specs.Flow.{Flow}
-use Rattle.ofit_num.specs.Problem.{Problem, HasDistinctPairs}
+use Rattle.ofit_num.specs.Problem.{Problem}
+use Rattle.ofit_num.specs.ProblemPairs.{HasDistinctPairs}
 use Rattle.ofit_num.specs.Sheet.{Sheet}
 use Rattle.ofit_num.specs.Verdict.{AllBelow, IsOnPair, IsInOrder, StandsBefore}
 use Rattle.std.specs.Ordering.{nat_cmp, is_lt}

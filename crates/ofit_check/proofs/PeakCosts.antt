@@ -6,13 +6,14 @@ use Rattle.std.proofs.lemmas.Option.{get_or_from_slice_get}
 use Rattle.std.specs.Prelude.{ℤ, pos, negsuc, ◌-ℤ◌, ◌*ℤ◌, unsigned_abs, slice_get, slice_index_or}
 use Rattle.ofit_num.specs.declared.row.Row.{Row}
 use Rattle.ofit_num.specs.Fit.{sum_below}
-use Rattle.ofit_num.specs.Limits.{AreWithinLimits, total_weight}
+use Rattle.ofit_num.specs.Limits.{total_weight}
+use Rattle.ofit_num.specs.RowLimits.{AreWithinLimits}
 use Rattle.ofit_num.specs.Loss.{Factors, factor_of, residual, row_sum, median}
 use Rattle.ofit_num.proofs.Gap.{is_gap, gap-same, gap-mul, pos-gap}
 use Rattle.ofit_num.proofs.RowSums.{row_sum-append, row_sum-same}
 use Rattle.ofit_num.proofs.TableScaling.{first_power}
 use Rattle.ofit_study.specs.Study.{Study, IsValid, groups_of}
-use Rattle.ofit_check.specs.Peak.{distance}
+use Rattle.ofit_check.specs.PeakSteps.{distance}
 use Rattle.ofit_span.proofs.Fittable.{rows_fittable}
 
 pub distances_more : (value : ℤ) (rows : List Row) (i : ℕ) (d : Row) → i < length rows → row_sum (distance value) (take (i + 1) rows) ≡ row_sum (distance value) (take i rows) + distance value (get_or rows i d)

@@ -7,7 +7,7 @@ use Rattle.ofit_num.specs.declared.row.Row.{Row}
 use Rattle.ofit_sheet.specs.PeakVerdict.{value_at, amount_at, IsInSpan, JoinsEqual}
 use Rattle.ofit_check.specs.declared.peak.slope.Slope.{Slope}
 use Rattle.ofit_check.specs.declared.peak.slope.Slope.TheVariants.{Rise, Fall}
-use Rattle.ofit_check.specs.Peak.{KeepsOrder, IsStep, step_balance}
+use Rattle.ofit_check.specs.PeakSteps.{KeepsOrder, IsStep, step_balance}
 
 module _ (rows : List Row) (side : List (ℤ × ℤ)) (j : ℕ) where
   pub step_made : (slope : Slope) → KeepsOrder slope side j → JoinsEqual side j → IsInSpan rows (value_at side j) (step_balance slope side j) → IsStep slope rows side j

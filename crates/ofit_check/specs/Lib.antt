@@ -1,3 +1,4 @@
 pub mod Check
 pub mod Told
 pub mod Peak
+pub mod PeakSteps

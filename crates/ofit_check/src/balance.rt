@@ -1,4 +1,4 @@
-ghost use Rattle.std.specs.Prelude.{◌≡◌, ◌↔◌, ◌<◌, ◌≤◌, ◌+◌, ◌*◌, ◌^◌, Bool, pos, ◌+ℤ◌, ◌≤ℤ◌, IsTrue, length, slice_index_or, unsigned_abs};
+ghost use Rattle.std.specs.Prelude.{◌≡◌, ◌↔◌, ◌<◌, ◌≤◌, ◌+◌, ◌*◌, ◌^◌, pos, ◌+ℤ◌, ◌≤ℤ◌, IsTrue, length, slice_index_or, unsigned_abs};
 ghost use Rattle.ofit_num.specs.Flow.{balance};
 ghost use Rattle.ofit_num.specs.Verdict.{IsBalanced};
 ghost use Rattle.ofit_study.specs.Study.{names_of, places_of, problem_stated, meaning_of};

@@ -1,4 +1,4 @@
-ghost use Rattle.std.specs.Prelude.{◌≡◌, ◌↔◌, ◌<◌, IsTrue, length};
+ghost use Rattle.std.specs.Prelude.{◌↔◌, ◌<◌, IsTrue, length};
 ghost use Rattle.ofit_num.specs.Verdict.{AllBelow, IsOnPair, IsInOrder, JoinsEqual};
 ghost use Rattle.ofit_study.specs.Study.{problem_stated};
 ghost use Rattle.ofit_check.specs.Check.{IsFirstFlow, HasValues};

@@ -1,7 +1,9 @@
 ghost use Rattle.std.specs.Prelude.{List};
 ghost use Rattle.ofit_num.specs.Fit.{Best, BestValues};
-ghost use Rattle.ofit_num.specs.Flow.{Flow, Certifies};
-ghost use Rattle.ofit_num.specs.Problem.{Problem, HasPlaces};
+ghost use Rattle.ofit_num.specs.Flow.{Flow};
+ghost use Rattle.ofit_num.specs.Certificate.{Certifies};
+ghost use Rattle.ofit_num.specs.Problem.{Problem};
+ghost use Rattle.ofit_num.specs.ProblemPairs.{HasPlaces};
 ghost use Rattle.ofit_num.specs.Sheet.{Sheet, FitsCount, sheet_values};
 ghost use Rattle.ofit_num.specs.Trial.{Trial};
 ghost use Rattle.ofit_num.specs.Verdict.{Passes};

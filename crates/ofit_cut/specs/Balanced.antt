@@ -15,12 +15,10 @@ Tells pairs spans (Below nodes) = AreNodes (length spans) nodes × IsBelow pairs
 
 -- the answer is Above
 abbrev pub IsAboveAnswer : Balanced → Type 0
-IsAboveAnswer (Flows amounts) = ⊥
 IsAboveAnswer (Above nodes) = Unit {0}
-IsAboveAnswer (Below nodes) = ⊥
+IsAboveAnswer answer = ⊥
 
 -- the answer is Below
 abbrev pub IsBelowAnswer : Balanced → Type 0
-IsBelowAnswer (Flows amounts) = ⊥
-IsBelowAnswer (Above nodes) = ⊥
 IsBelowAnswer (Below nodes) = Unit {0}
+IsBelowAnswer answer = ⊥

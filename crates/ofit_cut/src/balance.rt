@@ -31,8 +31,9 @@ fn opened(alloc: Global, spans: &[Span]) -> Result<Vec<Span>, AllocError>
 /// carry out of it; or, where there is no such upper set, a lower set whose greatest balances sum to
 /// less than 0 (Hoffman's circulation theorem, 1960).
 ///
-/// Amounts are from 0 to 2·10^33. One maximum flow for flows and for an upper set that it shows at
-/// once, and a second one where it shows a lower set.
+/// Amounts are from 0 to 2·10^33. Where there are flows, peeling leaves and one maximum flow along the pairs
+/// that are left find them; for a forest peeling does, in linear time. A set takes a second maximum flow, over
+/// all pairs, and a lower set as many again.
 pub fn balance_flow(
     alloc: Global,
     pairs: &[(u32, u32)],

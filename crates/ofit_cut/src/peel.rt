@@ -15,25 +15,25 @@ use std::alloc::{AllocError, Global};
 /// What an open end of a span counts as.
 const OPEN: i128 = 10_000_000_000_000_000_000_000_000_000_000_000_000;
 
-/// The pairs at a node that aren't peeled yet: how many, and the exclusive or of their indexes, which
-/// is the index of the last one.
+/// The pairs at a node that aren't peeled yet: how many, and the sum of their indexes, which is the index
+/// of the last one.
 #[derive(Clone, Copy)]
 pub(crate) struct Stub {
     pub(crate) degree: u32,
-    mixed: usize,
+    sum: usize,
 }
 
 impl Stub {
     /// Takes a pair in.
     fn join(&mut self, pair: usize) {
         self.degree = self.degree.saturating_add(1);
-        self.mixed ^= pair;
+        self.sum = self.sum.wrapping_add(pair);
     }
 
     /// Takes a pair out.
     fn leave(&mut self, pair: usize) {
         self.degree = self.degree.saturating_sub(1);
-        self.mixed ^= pair;
+        self.sum = self.sum.wrapping_sub(pair);
     }
 }
 
@@ -144,10 +144,7 @@ impl Rest {
 
 /// The pairs at each node, of which those with equal ends are left out.
 fn stubs_of(alloc: Global, pairs: &[(u32, u32)], nodes: usize) -> Result<Vec<Stub>, AllocError> {
-    let empty = Stub {
-        degree: 0,
-        mixed: 0,
-    };
+    let empty = Stub { degree: 0, sum: 0 };
     let mut stubs = vec![in alloc; empty; nodes]?;
     for (index, pair) in pairs.iter().enumerate() {
         let (low, high) = *pair;
@@ -169,11 +166,11 @@ fn leaf_at(pairs: &[(u32, u32)], stubs: &[Stub], node: usize) -> Option<Leaf> {
     if stub.degree != 1 {
         return None;
     }
-    let (low, high) = *pairs.get(stub.mixed)?;
+    let (low, high) = *pairs.get(stub.sum)?;
     let is_low = low as usize == node;
     Some(Leaf {
         node,
-        pair: stub.mixed,
+        pair: stub.sum,
         other: if is_low { high as usize } else { low as usize },
         is_low,
     })

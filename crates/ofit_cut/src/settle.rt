@@ -1,6 +1,6 @@
 //! Flows within spans, or a set against them.
 
-ghost use Rattle.std.specs.Prelude.{◌≡◌, ◌<◌, ◌≤◌, ◌*◌, ◌^◌, All, IfOk, length};
+ghost use Rattle.std.specs.Prelude.{◌<◌, ◌≤◌, ◌*◌, ◌^◌, All, IfOk, length};
 ghost use Rattle.ofit_cut.specs.Sets.{AreWithin};
 ghost use Rattle.ofit_cut.specs.Span.{IsOrdered, total_span};
 ghost use Rattle.ofit_cut.specs.Balanced.{Tells};

@@ -1,7 +1,7 @@
 //! The edges by which balances move within their spans.
 
 ghost use Rattle.std.specs.Prelude.{◌≡◌, ◌<◌, ◌≤◌, ◌*◌, ◌^◌, ◌++◌, All, IfOk, OnOk, length};
-ghost use Rattle.ofit_cut.specs.Sets.{AreWithin, total_size, weight_at};
+ghost use Rattle.ofit_cut.specs.Sets.{total_size};
 ghost use Rattle.ofit_cut.specs.Span.{IsOrdered, total_span};
 ghost use Rattle.ofit_cut.specs.Slack.{AreBases, slack_edges, supply, demand, balance_edges};
 

@@ -6,8 +6,8 @@ use Rattle.ofit_num.specs.declared.row.Row.{Row}
 use Rattle.ofit_num.specs.Fraction.{Fraction}
 use Rattle.ofit_num.specs.Fit.{LeastBestValues}
 use Rattle.ofit_num.specs.Loss.{row_sum}
-use Rattle.ofit_num.specs.Problem.{no_bounds}
-use Rattle.ofit_num.specs.Clipped.{without_bounds, AreClipped}
+use Rattle.ofit_num.specs.Unbounded.{no_bounds, without_bounds}
+use Rattle.ofit_num.specs.Clipped.{AreClipped}
 use Rattle.ofit_num.proofs.ClippedTable.{cut_off_least}
 use Rattle.ofit_order.specs.Relation.{Relation}
 use Rattle.ofit_loss.specs.TableLaws.{some_weight}

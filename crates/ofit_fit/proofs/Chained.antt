@@ -3,7 +3,8 @@ use Rattle.std.proofs.Common.{◌≡◌, ℕ, ◌<◌, sym, ap, subst, ◌∙◌
 use Rattle.std.proofs.lemmas.List.{same_lists, get_or-map, length-map, get_or_default}
 use Rattle.std.specs.Prelude.{slice_get, All}
 use Rattle.std.specs.List.{Contains}
-use Rattle.ofit_num.specs.Problem.{Problem, no_bounds}
+use Rattle.ofit_num.specs.Problem.{Problem}
+use Rattle.ofit_num.specs.Unbounded.{no_bounds}
 use Rattle.ofit_num.specs.Meaning.{Meaning}
 use Rattle.ofit_num.specs.Fraction.{Fraction}
 use Rattle.ofit_num.specs.Fit.{LeastBestValues}

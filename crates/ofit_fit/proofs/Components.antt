@@ -2,16 +2,20 @@
 use Rattle.std.proofs.Common.{◌≡◌, ℕ, ◌<◌, ◌⊎◌, refl, sym, arith, inl, inr, List, [], length, get_or, slice_index}
 use Rattle.std.proofs.lemmas.Bool.{cases_order}
 use Rattle.std.proofs.lemmas.List.Elements.{Contains-get_or, All-contains}
-use Rattle.ofit_num.specs.Problem.{Problem, HasPlaces}
+use Rattle.ofit_num.specs.Problem.{Problem}
+use Rattle.ofit_num.specs.ProblemPairs.{HasPlaces}
 use Rattle.ofit_num.specs.Meaning.{Meaning}
 use Rattle.ofit_num.specs.Fraction.{Fraction}
 use Rattle.ofit_num.specs.Fit.{LeastBestValues}
 use Rattle.ofit_num.specs.Law.{HasScaling}
-use Rattle.ofit_order.specs.Relation.{Relation, AreWithin}
-use Rattle.ofit_order.specs.Component.{HasComponent, IsComponentOf, AreMembers}
+use Rattle.ofit_order.specs.Relation.{Relation}
+use Rattle.ofit_order.specs.Within.{AreWithin}
+use Rattle.ofit_order.specs.Component.{IsComponentOf, AreMembers}
+use Rattle.ofit_order.specs.Numbers.{HasComponent}
 use Rattle.ofit_order.proofs.Forming.{member_inside}
 use Rattle.ofit_order.proofs.Uniqueness.{members_along, only_component}
-use Rattle.ofit_fit.specs.Part.{part_of, values_at, IsOrderOf}
+use Rattle.ofit_fit.specs.Part.{part_of, values_at}
+use Rattle.ofit_fit.specs.OrderOf.{IsOrderOf}
 use Rattle.ofit_fit.specs.Compose.{IsLeastBestByParts}
 use Rattle.ofit_fit.proofs.Up.{LiesIn, AreParts}
 use Rattle.ofit_fit.proofs.Closed.{IsClosed, distinct_from_increasing, place_from_contains, contains_from_place, part_of-IsPart}

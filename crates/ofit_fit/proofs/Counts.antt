@@ -10,7 +10,7 @@ use Rattle.ofit_order.specs.declared.form.Form.{Form}
 use Rattle.ofit_order.specs.declared.form.Form.TheVariants.{Chain, TreeUp, TreeDown, General}
 use Rattle.ofit_order.proofs.Uniqueness.{AreLeastPlaces-same}
 use Rattle.ofit_partition.proofs.Steps.{front_or_end}
-use Rattle.ofit_fit.specs.Part.{IsOrderOf}
+use Rattle.ofit_fit.specs.OrderOf.{IsOrderOf}
 use Rattle.ofit_fit.specs.Counted.{cuts_of, HaveForms, HasCutCount}
 use Rattle.ofit_fit.proofs.OneOrder.{one_order, one_cut_count}
 

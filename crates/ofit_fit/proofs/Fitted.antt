@@ -15,7 +15,8 @@ use Rattle.ofit_order.specs.Connection.{Joins}
 use Rattle.ofit_order.specs.Component.{IsComponentOf, AreMembers, IsComponentCount, IsLeastPlace}
 use Rattle.ofit_order.proofs.Walks.{IsReached-weaker}
 use Rattle.ofit_order.proofs.Uniqueness.{only_component, AreLeastPlaces-same, HasComponent-below}
-use Rattle.ofit_fit.specs.Part.{part_of, value_at, values_at, IsOrderOf}
+use Rattle.ofit_fit.specs.Part.{part_of, value_at, values_at}
+use Rattle.ofit_fit.specs.OrderOf.{IsOrderOf}
 use Rattle.ofit_fit.specs.Put.{ArePut}
 use Rattle.ofit_fit.specs.Compose.{IsLeastBestByParts}
 use Rattle.ofit_fit.specs.Counted.{HasComponentCount}

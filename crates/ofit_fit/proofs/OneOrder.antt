@@ -5,7 +5,7 @@ use Rattle.ofit_order.specs.Relation.{Relation, ComesBefore}
 use Rattle.ofit_order.specs.Form.{HasForm, FitsForm}
 use Rattle.ofit_order.specs.declared.form.Form.{Form}
 use Rattle.ofit_order.specs.declared.form.Form.TheVariants.{Chain, TreeUp, TreeDown, General}
-use Rattle.ofit_fit.specs.Part.{IsOrderOf}
+use Rattle.ofit_fit.specs.OrderOf.{IsOrderOf}
 use Rattle.ofit_fit.specs.Counted.{cuts_of}
 use Rattle.ofit_fit.proofs.Ready.{same_members, before_apart}
 use Rattle.ofit_num.proofs.Members.{sorted_one}

@@ -3,10 +3,12 @@ use Rattle.std.proofs.Common.{◌≡◌, ℕ, ◌<◌, sym, ap, ◌∙◌, arith
 use Rattle.std.proofs.lemmas.List.{get_or-map, length-map}
 use Rattle.std.proofs.lemmas.Option.{slice_get_within, slice_get-get_or, unwrap_or-slice_get}
 use Rattle.std.specs.Prelude.{slice_get, Some, pos}
-use Rattle.ofit_num.specs.Problem.{Problem, HasPlaces}
+use Rattle.ofit_num.specs.Problem.{Problem}
+use Rattle.ofit_num.specs.ProblemPairs.{HasPlaces}
 use Rattle.ofit_num.specs.Meaning.{Meaning}
 use Rattle.ofit_num.specs.Fraction.{Fraction}
-use Rattle.ofit_num.specs.Trial.{scale_of, trial_of, Represents}
+use Rattle.ofit_num.specs.Trial.{scale_of, trial_of}
+use Rattle.ofit_num.specs.TrialValues.{Represents}
 use Rattle.ofit_num.specs.Fit.{LeastBest, LeastBestValues}
 use Rattle.ofit_num.specs.Law.{HasScaling}
 use Rattle.ofit_num.proofs.Trials.{scale_above, den_above, value_of-den, least_best_values, least_best_trial}

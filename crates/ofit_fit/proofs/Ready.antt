@@ -9,8 +9,9 @@ use Rattle.ofit_num.specs.Fit.{LeastBestValues}
 use Rattle.std.specs.List.{Any, Contains}
 use Rattle.std.specs.List.Sorted.{IsStrictlyIncreasing}
 use Rattle.ofit_num.specs.declared.row.Row.{Row}
-use Rattle.ofit_num.specs.Clipped.{without_bounds}
-use Rattle.ofit_num.specs.Problem.{Problem, no_bounds}
+use Rattle.ofit_num.specs.Unbounded.{without_bounds}
+use Rattle.ofit_num.specs.Problem.{Problem}
+use Rattle.ofit_num.specs.Unbounded.{no_bounds}
 use Rattle.ofit_num.specs.Meaning.{Meaning}
 use Rattle.ofit_num.specs.Law.{HasScaling}
 use Rattle.ofit_num.specs.Limits.{all_rows}
@@ -18,7 +19,8 @@ use Rattle.ofit_num.proofs.Pigeonhole.{distinct_few}
 use Rattle.ofit_num.proofs.RowLists.{all_front, all_back}
 use Rattle.ofit_order.specs.Relation.{Relation, ComesBefore}
 use Rattle.ofit_order.specs.Connection.{LeadsUp, Joins}
-use Rattle.ofit_order.specs.Component.{HasComponent, IsComponentOf, AreMembers}
+use Rattle.ofit_order.specs.Component.{IsComponentOf, AreMembers}
+use Rattle.ofit_order.specs.Numbers.{HasComponent}
 use Rattle.ofit_order.proofs.Walks.{IsReached-refl}
 use Rattle.ofit_order.proofs.Forming.{member_inside}
 pub use Rattle.ofit_order.proofs.Shaping.{AreMembers-same as same_members}
@@ -31,7 +33,8 @@ use Rattle.ofit_study.proofs.Places.{group_count, pair_count}
 use Rattle.ofit_study.proofs.Stating.{groups_filled}
 use Rattle.ofit_span.proofs.Fittable.{all_plain, all_fittable}
 use Rattle.ofit_fit.specs.Links.{AreWholeMembers}
-use Rattle.ofit_fit.specs.Part.{part_of, IsOrderOf}
+use Rattle.ofit_fit.specs.Part.{part_of}
+use Rattle.ofit_fit.specs.OrderOf.{IsOrderOf}
 use Rattle.ofit_fit.specs.Piece.{IsFittable, ArePlaces}
 use Rattle.ofit_fit.proofs.Closed.{IsClosed, distinct_from_increasing}
 

@@ -5,7 +5,8 @@ use Rattle.std.proofs.lemmas.List.Elements.{Contains-get_or, All-contains}
 use Rattle.std.specs.Prelude.{pos, ◌*ℤ◌, ◌≤ℤ◌, IfSome}
 use Rattle.std.specs.List.{Contains}
 use Rattle.ofit_num.specs.declared.row.Row.{Row}
-use Rattle.ofit_num.specs.Problem.{Problem, Bounds, HasPlaces}
+use Rattle.ofit_num.specs.Problem.{Problem, Bounds}
+use Rattle.ofit_num.specs.ProblemPairs.{HasPlaces}
 use Rattle.ofit_num.specs.Meaning.{Meaning}
 use Rattle.ofit_num.specs.Trial.{Trial}
 use Rattle.ofit_num.specs.Fit.{Obeys, trial_cost, sum_below, Best, LeastBest}

@@ -6,8 +6,10 @@ use Rattle.ofit_num.specs.Fraction.{Fraction}
 use Rattle.ofit_num.specs.Law.{HasScaling}
 use Rattle.ofit_num.specs.Fit.{LeastBestValues}
 use Rattle.ofit_order.specs.Relation.{Relation}
-use Rattle.ofit_order.specs.Component.{HasComponent, AreMembers}
-use Rattle.ofit_fit.specs.Part.{part_of, values_at, IsOrderOf}
+use Rattle.ofit_order.specs.Component.{AreMembers}
+use Rattle.ofit_order.specs.Numbers.{HasComponent}
+use Rattle.ofit_fit.specs.Part.{part_of, values_at}
+use Rattle.ofit_fit.specs.OrderOf.{IsOrderOf}
 
 -- there is one value for each group, and those of each component are least best for its part
 pub record IsLeastBestByParts (order : Relation) (m : Meaning) (s : Problem) (values : List Fraction) : Type 0 where

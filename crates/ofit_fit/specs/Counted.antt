@@ -6,7 +6,7 @@ use Rattle.ofit_order.specs.Component.{IsComponentCount}
 use Rattle.ofit_order.specs.Form.{HasForm}
 use Rattle.ofit_order.specs.declared.form.Form.{Form}
 use Rattle.ofit_order.specs.declared.form.Form.TheVariants.{Chain, TreeUp, TreeDown, General}
-use Rattle.ofit_fit.specs.Part.{IsOrderOf}
+use Rattle.ofit_fit.specs.OrderOf.{IsOrderOf}
 pub use Rattle.ofit_study.specs.Counted.{HasComponentCount}
 
 -- a component is fitted by cuts where it is neither a chain nor a rooted tree

@@ -1,4 +1,5 @@
 pub mod Part
+pub mod OrderOf
 pub mod Compose
 pub mod Links
 pub mod Put

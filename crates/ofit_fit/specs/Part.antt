@@ -1,10 +1,9 @@
 -- The part of a problem that some of its places make up, as the members of a component do.
-use Rattle.std.specs.Prelude.{◌≡◌, ◌==◌, ℕ, ◌↔◌, List, length, map, slice_index}
-use Rattle.std.specs.List.{Contains, position_or_len}
+use Rattle.std.specs.Prelude.{◌==◌, ℕ, List, length, map, slice_index}
+use Rattle.std.specs.List.{position_or_len}
 use Rattle.ofit_num.specs.Problem.{Problem}
 use Rattle.ofit_num.specs.Fraction.{Fraction}
 pub use Rattle.ofit_num.specs.Tight.{value_at}
-use Rattle.ofit_order.specs.Relation.{Relation, AreInOrder}
 use Rattle.ofit_order.specs.Form.{pairs_among}
 
 -- where the place stands among the members
@@ -27,9 +26,3 @@ part_of s members = record {
 -- the values of the members, in the members' order
 abbrev pub values_at : List Fraction → List ℕ → List Fraction
 values_at values members = map (value_at values) members
-
--- the order is between the problem's places, by its pairs, each once and sorted
-pub record IsOrderOf (order : Relation) (s : Problem) : Type 0 where
-  pub places : order.places ≡ s.count
-  pub in_order : AreInOrder order.pairs
-  pub pairs : (e : ℕ × ℕ) → Contains order.pairs e ↔ Contains s.pairs e

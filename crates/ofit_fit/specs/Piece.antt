@@ -7,7 +7,7 @@ use Rattle.ofit_order.specs.Relation.{Relation}
 use Rattle.ofit_order.specs.Connection.{LeadsUp}
 use Rattle.ofit_loss.specs.Rows.{AreFittable, IsPlain}
 use Rattle.ofit_study.specs.Study.{Study, groups_of, most_groups, most_pairs, problem_stated}
-use Rattle.ofit_fit.specs.Part.{IsOrderOf}
+use Rattle.ofit_fit.specs.OrderOf.{IsOrderOf}
 
 -- a study whose groups have observations that a loss takes together, with its order
 pub record IsFittable (s : Study) (order : Relation) : Type 0 where

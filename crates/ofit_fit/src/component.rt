@@ -1,9 +1,11 @@
 ghost use Rattle.std.specs.Prelude.{◌≡◌, ◌+◌, ◌-◌, ◌<◌, ◌^◌, ℕ, IfOk, List};
-ghost use Rattle.ofit_num.specs.Clipped.{without_bounds};
+ghost use Rattle.ofit_num.specs.Unbounded.{without_bounds};
 ghost use Rattle.ofit_num.specs.Fit.{LeastBestValues};
-ghost use Rattle.ofit_order.specs.Component.{HasComponent, AreMembers};
+ghost use Rattle.ofit_order.specs.Component.{AreMembers};
+ghost use Rattle.ofit_order.specs.Numbers.{HasComponent};
 ghost use Rattle.ofit_study.specs.Study.{problem_stated, meaning_of};
-ghost use Rattle.ofit_fit.specs.Part.{part_of, IsOrderOf};
+ghost use Rattle.ofit_fit.specs.Part.{part_of};
+ghost use Rattle.ofit_fit.specs.OrderOf.{IsOrderOf};
 ghost use Rattle.ofit_fit.specs.Piece.{IsFittable};
 ghost use Rattle.ofit_fit.specs.Counted.{CountsCut};
 

@@ -1,7 +1,7 @@
 ghost use Rattle.std.specs.Prelude.{◌≡◌, ◌+◌, ◌-◌, ◌<◌, ◌≤◌, ◌^◌, ℕ, IfOk, OnOk, length};
 ghost use Rattle.std.specs.List.{Contains};
 ghost use Rattle.std.specs.List.Sorted.{IsStrictlyIncreasing};
-ghost use Rattle.ofit_num.specs.Clipped.{without_bounds};
+ghost use Rattle.ofit_num.specs.Unbounded.{without_bounds};
 ghost use Rattle.ofit_num.specs.Fit.{LeastBestValues};
 ghost use Rattle.ofit_study.specs.Study.{problem_stated};
 ghost use Rattle.ofit_fit.specs.Part.{part_of};

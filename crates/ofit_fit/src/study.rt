@@ -5,7 +5,7 @@ ghost use Rattle.ofit_num.specs.Fraction.{Fraction};
 ghost use Rattle.ofit_num.specs.MaxMin.{MaxMin};
 ghost use Rattle.ofit_study.specs.declared.loss.LossKind.TheVariants.{Squares};
 ghost use Rattle.ofit_study.specs.Study.{groups_of, problem_stated, meaning_of};
-ghost use Rattle.ofit_fit.specs.Part.{IsOrderOf};
+ghost use Rattle.ofit_fit.specs.OrderOf.{IsOrderOf};
 ghost use Rattle.ofit_fit.specs.Counted.{HasComponentCount, HasCutCount};
 
 use crate::component::fit_component;

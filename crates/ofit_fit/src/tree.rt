@@ -1,5 +1,5 @@
 ghost use Rattle.std.specs.Prelude.{ℕ, IfOk};
-ghost use Rattle.ofit_num.specs.Clipped.{without_bounds};
+ghost use Rattle.ofit_num.specs.Unbounded.{without_bounds};
 ghost use Rattle.ofit_num.specs.Fit.{LeastBestValues};
 ghost use Rattle.ofit_order.specs.Shape.{RunsTo};
 ghost use Rattle.ofit_study.specs.Study.{problem_stated};

@@ -1,4 +1,4 @@
-ghost use Rattle.std.specs.Prelude.{◌≡◌, ◌<◌, ℕ, IfOk, List, length, slice_index, vec_len};
+ghost use Rattle.std.specs.Prelude.{◌≡◌, ◌<◌, ℕ, IfOk, length, slice_index, vec_len};
 ghost use Rattle.std.specs.List.{All};
 ghost use Rattle.ofit_fit.specs.Put.{ArePut};
 

@@ -1,6 +1,6 @@
 //! Levels of nodes, by breadth-first search in the residual net.
 
-ghost use Rattle.std.specs.Prelude.{◌≡◌, ◌<◌, ◌≤◌, ◌+◌, ◌^◌, ℕ, IfOk, OnOk, All, None, length, replicate};
+ghost use Rattle.std.specs.Prelude.{◌≡◌, ◌<◌, ◌+◌, ◌^◌, ℕ, IfOk, OnOk, All, None, length, replicate};
 ghost use Rattle.ofit_flow.specs.Flow.{amount_at, edge_at};
 ghost use Rattle.ofit_flow.specs.Incidence.{AreRows, IsIncidence, row_at};
 ghost use Rattle.ofit_flow.specs.Levels.{IsLevelled, IsSearched};

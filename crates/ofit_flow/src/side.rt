@@ -1,6 +1,6 @@
 //! The two sides of the extreme minimum cuts.
 
-ghost use Rattle.std.specs.Prelude.{◌≡◌, ◌≢◌, ◌<◌, IfOk, is_some, length, map};
+ghost use Rattle.std.specs.Prelude.{◌≡◌, ◌<◌, IfOk, is_some, length, map};
 ghost use Rattle.ofit_flow.specs.Flow.{IsWithin};
 ghost use Rattle.ofit_flow.specs.Incidence.{AreRows, IsIncidence, row_at};
 ghost use Rattle.ofit_flow.specs.Network.{members};

@@ -1,5 +1,5 @@
 ghost use Rattle.std.specs.Prelude.{◌≡◌, IfOk, IfErr, OnOk, Ok, Err};
-ghost use Rattle.ofit_words.specs.Words.{IsJobInLimits};
+ghost use Rattle.ofit_words.specs.JobLimits.{IsJobInLimits};
 ghost use Rattle.ofit_input.specs.Ready.{ReadyGives, NamesFile};
 ghost use Rattle.ofit_input.specs.Fitting.{IsFitting};
 ghost use Rattle.ofit_input.specs.Stops.{Stops};

@@ -6,7 +6,8 @@ use Rattle.std.specs.Prelude.{Bool, ℤ, pos, ◌+ℤ◌, ◌-ℤ◌, ◌*ℤ◌
 use borrow.Author.Differences.{up}
 use Rattle.ofit_num.specs.declared.row.Row.{Row}
 use Rattle.ofit_num.specs.Meaning.{Meaning}
-use Rattle.ofit_num.specs.Fraction.{Fraction, SameValue, Below}
+use Rattle.ofit_num.specs.Fraction.{Fraction, SameValue}
+use Rattle.ofit_num.specs.Below.{Below}
 use Rattle.ofit_num.proofs.Gap.{is_gap, gap-same, gap-add, gap-mul, pos-gap, distr}
 use Rattle.ofit_num.proofs.Order.{natural, mul_strict, zero_mul_ℤ, mul_zero_ℤ, swap_ℤ, pow_above}
 use Rattle.ofit_loss.specs.Rows.{AreFittable}

@@ -1,11 +1,11 @@
 -- A loss's laws over the groups of a problem, as fits and certificates take them.
 use Rattle.std.proofs.Common.{◌≡◌, ℕ, zero, suc, ◌-◌, ◌<◌, ◌^◌, List, [], ◌∷◌, ◌++◌, length, take, drop, subst, arith, inl, inr}
-use Rattle.std.proofs.lemmas.List.Sums.{sum_by-append}
-use Rattle.std.specs.Prelude.{Bool, true, Any, ℤ, pos, ◌*ℤ◌, ◌≤ℤ◌, ◌<ℤ◌, slice_get, Some, unwrap_or, nat_lt, cond}
+use Rattle.std.specs.Prelude.{Bool, true, Any, ℤ, pos, ◌*ℤ◌, ◌≤ℤ◌, ◌<ℤ◌, slice_get, Some, unwrap_or}
 use Rattle.ofit_num.specs.declared.row.Row.{Row}
 use Rattle.ofit_num.specs.Problem.{Problem, Bounds, problem_of}
 use Rattle.ofit_num.specs.Meaning.{Meaning}
-use Rattle.ofit_num.specs.Fraction.{Fraction, Below}
+use Rattle.ofit_num.specs.Fraction.{Fraction}
+use Rattle.ofit_num.specs.Below.{Below}
 use Rattle.ofit_num.specs.Limits.{all_rows}
 use Rattle.ofit_num.specs.Law.{HasSupport, HasFallingSpans, HasScaling, least_at, greatest_at}
 use Rattle.ofit_num.specs.Sets.{set_sum}
@@ -13,15 +13,16 @@ use Rattle.ofit_num.specs.Block.{IsPooled, IsCost}
 use Rattle.ofit_num.proofs.RowLists.{all_rows-split, within-front, within-back}
 use Rattle.ofit_num.proofs.TableFalling.{proportional}
 use Rattle.ofit_loss.specs.Rows.{IsPlain, AreFittable}
+use Rattle.ofit_loss.proofs.Plain.{special_count-append}
 use Rattle.ofit_loss.specs.Laws.{HasLossLaws, HasFittableGroups}
 use Rattle.ofit_loss.specs.Least.{IsLeastMinimiser}
 
 -- parts of rows that a loss takes
 pub fittable-front : (xs ys : List Row) → AreFittable (xs ++ ys) → AreFittable xs
-fittable-front xs ys h = record { limits = within-front xs ys h.limits; special = omega (arith, h.special, sum_by-append (λ (r : Row). cond (nat_lt 4294967293 r.number) 1 0) xs ys) }
+fittable-front xs ys h = record { limits = within-front xs ys h.limits; special = omega (arith, h.special, special_count-append xs ys) }
 
 pub fittable-back : (xs ys : List Row) → AreFittable (xs ++ ys) → AreFittable ys
-fittable-back xs ys h = record { limits = within-back xs ys h.limits; special = omega (arith, h.special, sum_by-append (λ (r : Row). cond (nat_lt 4294967293 r.number) 1 0) xs ys) }
+fittable-back xs ys h = record { limits = within-back xs ys h.limits; special = omega (arith, h.special, special_count-append xs ys) }
 
 pub group_fittable : (groups : List (List Row)) (k : ℕ) (rows : List Row) → slice_get groups k ≡ Some rows → AreFittable (all_rows groups) → AreFittable rows
 group_fittable groups k rows e h =

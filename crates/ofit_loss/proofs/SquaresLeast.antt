@@ -4,8 +4,10 @@ use Rattle.std.proofs.lemmas.Nat.{mul-le}
 use Rattle.std.proofs.lemmas.Int.{ints, by_lt_z, unsigned_abs-mul}
 use Rattle.std.specs.Prelude.{ℤ, pos, true, max, ◌+ℤ◌, ◌-ℤ◌, ◌*ℤ◌, ◌<ℤ◌, unsigned_abs}
 use Rattle.ofit_num.specs.declared.row.Row.{Row}
-use Rattle.ofit_num.specs.Fraction.{Fraction, Below}
-use Rattle.ofit_num.specs.Limits.{IsRowWithinLimits, AreWithinLimits, total_weight}
+use Rattle.ofit_num.specs.Fraction.{Fraction}
+use Rattle.ofit_num.specs.Below.{Below}
+use Rattle.ofit_num.specs.Limits.{total_weight}
+use Rattle.ofit_num.specs.RowLimits.{IsRowWithinLimits, AreWithinLimits}
 use Rattle.ofit_num.specs.Loss.{residual, squared_end, squares}
 use Rattle.ofit_num.proofs.Order.{mul_pos, zero_mul_ℤ, swap_ℤ, size_sub}
 use Rattle.ofit_num.proofs.RowSums.{row_sum-sum_by}

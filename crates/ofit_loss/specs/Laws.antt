@@ -3,7 +3,8 @@ use Rattle.std.specs.Prelude.{◌≡◌, ℕ, ◌+◌, ◌*◌, ◌-◌, ◌^◌
 use Rattle.ofit_num.specs.declared.row.Row.{Row}
 use Rattle.ofit_num.specs.Problem.{Problem}
 use Rattle.ofit_num.specs.Meaning.{Meaning}
-use Rattle.ofit_num.specs.Fraction.{Fraction, Below}
+use Rattle.ofit_num.specs.Fraction.{Fraction}
+use Rattle.ofit_num.specs.Below.{Below}
 use Rattle.ofit_loss.specs.Rows.{IsPlain, AreFittable}
 
 -- the span is an interval, and each number in it supports the cost from below

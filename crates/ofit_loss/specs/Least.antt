@@ -2,7 +2,8 @@
 use Rattle.std.specs.Prelude.{ℕ, ◌*◌, ◌^◌, ◌<◌, ◌≤◌, Bool, List, [], ◌∷◌, sum_by, max, pos, ◌≤ℤ◌, ◌<ℤ◌, unsigned_abs}
 use Rattle.ofit_num.specs.declared.row.Row.{Row}
 use Rattle.ofit_num.specs.Meaning.{Meaning}
-use Rattle.ofit_num.specs.Fraction.{Fraction, Below}
+use Rattle.ofit_num.specs.Fraction.{Fraction}
+use Rattle.ofit_num.specs.Below.{Below}
 use Rattle.ofit_num.specs.Block.{IsCost}
 
 -- The span at c holds the balance 0, and goes above it where the loss is not strict; at each smaller value the whole span is above 0.

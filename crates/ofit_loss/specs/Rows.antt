@@ -1,15 +1,19 @@
 -- The rows that a loss takes.
 use Rattle.std.specs.Prelude.{ℕ, ◌≤◌, List, count_by, nat_lt}
 use Rattle.ofit_num.specs.declared.row.Row.{Row}
-use Rattle.ofit_num.specs.Limits.{AreWithinLimits}
+use Rattle.ofit_num.specs.RowLimits.{AreWithinLimits}
 
--- The two greatest numbers are kept for rows that are no observations.
+-- the last number of an observation; the two above it are kept for rows that are no observations
+abbrev pub last_plain : ℕ
+last_plain = 4294967293
+
+-- a row whose number is that of an observation
 abbrev pub IsPlain : Row → Type 0
-IsPlain r = r.number ≤ 4294967293
+IsPlain r = r.number ≤ last_plain
 
 -- how many of the rows aren't plain
 abbrev pub special_count : List Row → ℕ
-special_count rows = count_by (λ r. nat_lt 4294967293 r.number) rows
+special_count rows = count_by (λ r. nat_lt last_plain r.number) rows
 
 -- the rows are within the limits, also together, and few of them are special
 pub record AreFittable (rows : List Row) : Type 0 where

@@ -1,6 +1,6 @@
-ghost use Rattle.std.specs.Prelude.{◌≡◌, Some, refl};
+ghost use Rattle.std.specs.Prelude.{Some, refl};
 ghost use Rattle.std.specs.Cmp;
-ghost use Rattle.std.specs.Cmp.{on_total, on_equiv, int_cmp_total};
+ghost use Rattle.std.specs.Cmp.{on_total, int_cmp_total};
 ghost use Rattle.std.specs.Ordering.{is_eq};
 ghost use Rattle.ofit_loss.specs.Entry.{entry_cmp};
 

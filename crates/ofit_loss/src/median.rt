@@ -1,6 +1,7 @@
 ghost use Rattle.std.specs.Prelude.{◌≡◌, ◌≤◌, ◌^◌, unsigned_abs, false, refl};
+ghost use Rattle.ofit_num.specs.declared.limits.TheConstants.{MOST_UNITS};
 ghost use Rattle.ofit_num.specs.Loss.{residual, median, absolute_least, absolute_greatest};
-ghost use Rattle.ofit_num.specs.Limits.{AreWithinLimits};
+ghost use Rattle.ofit_num.specs.RowLimits.{AreWithinLimits};
 ghost use Rattle.ofit_loss.specs.TableLaws.{median-laws};
 
 use crate::loss::Loss;
@@ -23,7 +24,7 @@ pub struct Median;
 
 /// The whole number as a fraction.
 fn whole(value: i64) -> Frac
-    requires { unsigned_abs value ≤ 10 ^ 9 }
+    requires { unsigned_abs value ≤ MOST_UNITS }
     ensures { result ≡ record { num = value; den = 1 } }
 {
     Frac::make(i128::from(value), 1).unwrap()
@@ -31,7 +32,7 @@ fn whole(value: i64) -> Frac
 
 /// What the row's value is above the fraction, times its denominator.
 fn residual_at(row: &Row, at: &Frac) -> i128
-    requires { unsigned_abs row.now.value ≤ 10 ^ 9 }
+    requires { unsigned_abs row.now.value ≤ MOST_UNITS }
     ensures { result ≡ residual row.now at.now.num at.now.den }
 {
     scaled(i128::from(row.value), at.den()) - at.num()

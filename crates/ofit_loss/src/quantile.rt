@@ -1,7 +1,8 @@
-ghost use Rattle.std.specs.Prelude.{◌≡◌, ℕ, ◌+◌, ◌*◌, ◌^◌, ◌<◌, ◌≤◌, ◌≤ℤ◌, ◌↔◌, List, All, sum_by, ◌++◌, IsTrue, IfOk, OnOk, false, unsigned_abs};
+ghost use Rattle.std.specs.Prelude.{◌≡◌, ℕ, ◌+◌, ◌*◌, ◌<◌, ◌≤◌, ◌≤ℤ◌, ◌↔◌, List, All, sum_by, ◌++◌, IsTrue, IfOk, OnOk, false, unsigned_abs};
 ghost use Rattle.std.specs.BinaryHeap.{heap_items, heap_len};
 ghost use Rattle.ofit_num.specs.declared.row.Row.{Row};
-ghost use Rattle.ofit_num.specs.Limits.{AreWithinLimits, total_weight};
+ghost use Rattle.ofit_num.specs.Limits.{total_weight};
+ghost use Rattle.ofit_num.specs.RowLimits.{AreWithinLimits};
 ghost use Rattle.ofit_loss.specs.declared.entry.Entry.{Entry};
 ghost use Rattle.ofit_loss.specs.Pool.{CanJoin};
 
@@ -33,6 +34,7 @@ pub struct QuantilePool {
 
 impl QuantilePool {
     ghost use Rattle.ofit_loss.specs.Entry.{entry_of};
+    ghost use Rattle.ofit_num.specs.declared.limits.TheConstants.{MOST_UNITS, MOST_WEIGHT};
     ghost use Rattle.ofit_loss.specs.Quantile.{IsQuantile, IsSplit, IsLeastShare, IsBalanced, IsQuantilePool, HasQuantile, AreFactors, entry_under, low_sum, pool_sum};
 
     /// The pool of the rows. Some rows from the middle are put in first, so that most of the others come
@@ -74,7 +76,7 @@ impl QuantilePool {
     /// The least value of a row such that the rows at most there are their share of the weight.
     pub fn least(&self) -> i64
         requires { HasQuantile self.now }
-        ensures range { unsigned_abs result ≤ 10 ^ 9 }
+        ensures range { unsigned_abs result ≤ MOST_UNITS }
         ensures quantile { (above below : ℕ) (rows : List Row) → IsQuantilePool above below self.now rows → IsQuantile above below rows result }
     {
         match self.low.peek() {
@@ -92,7 +94,7 @@ impl QuantilePool {
     fn with(mut self, other: &QuantilePool, factors: Factors) -> Result<QuantilePool, AllocError>
         requires factors { AreFactors factors.above factors.below }
         requires split { IsSplit self }
-        requires weight { self.weight + pool_sum (λ e. e.weight) other.now ≤ 10 ^ 10 }
+        requires weight { self.weight + pool_sum (λ e. e.weight) other.now ≤ MOST_WEIGHT }
         ensures balanced { IfOk result (λ pool. IsBalanced factors.above factors.below pool) }
         ensures rows { IfOk result (λ pool. (f : Entry → ℕ) → pool_sum f pool ≡ pool_sum f self + pool_sum f other.now) }
     {
@@ -105,7 +107,7 @@ impl QuantilePool {
     /// Puts in the rows.
     fn insert_rows(&mut self, rows: &[Row]) -> Result<(), AllocError>
         requires split { IsSplit self.old }
-        requires weight { self.old.weight + total_weight rows.now ≤ 10 ^ 10 }
+        requires weight { self.old.weight + total_weight rows.now ≤ MOST_WEIGHT }
         ensures split { OnOk result (IsSplit self.new) }
         ensures rows { OnOk result ((f : Entry → ℕ) → pool_sum f self.new ≡ pool_sum f self.old + sum_by (λ r. f (entry_of r)) rows.now) }
     {
@@ -121,7 +123,7 @@ impl QuantilePool {
     /// Puts in rows of another pool's lower side.
     fn insert_low(&mut self, entries: &[Entry]) -> Result<(), AllocError>
         requires split { IsSplit self.old }
-        requires weight { self.old.weight + sum_by (λ e. e.weight) entries.now ≤ 10 ^ 10 }
+        requires weight { self.old.weight + sum_by (λ e. e.weight) entries.now ≤ MOST_WEIGHT }
         ensures split { OnOk result (IsSplit self.new) }
         ensures rows { OnOk result ((f : Entry → ℕ) → pool_sum f self.new ≡ pool_sum f self.old + sum_by f entries.now) }
     {
@@ -134,7 +136,7 @@ impl QuantilePool {
     /// Puts in rows of another pool's upper side.
     fn insert_high(&mut self, entries: &[Reverse<Entry>]) -> Result<(), AllocError>
         requires split { IsSplit self.old }
-        requires weight { self.old.weight + sum_by (λ e. e.0.weight) entries.now ≤ 10 ^ 10 }
+        requires weight { self.old.weight + sum_by (λ e. e.0.weight) entries.now ≤ MOST_WEIGHT }
         ensures split { OnOk result (IsSplit self.new) }
         ensures rows { OnOk result ((f : Entry → ℕ) → pool_sum f self.new ≡ pool_sum f self.old + sum_by (λ e. f e.0) entries.now) }
     {
@@ -147,7 +149,7 @@ impl QuantilePool {
     /// Puts a row in on its side.
     fn insert(&mut self, entry: Entry) -> Result<(), AllocError>
         requires split { IsSplit self.old }
-        requires weight { self.old.weight + entry.weight ≤ 10 ^ 10 }
+        requires weight { self.old.weight + entry.weight ≤ MOST_WEIGHT }
         ensures split { OnOk result (IsSplit self.new) }
         ensures rows { OnOk result ((f : Entry → ℕ) → pool_sum f self.new ≡ pool_sum f self.old + f entry) }
     {
@@ -199,7 +201,7 @@ impl QuantilePool {
     fn balance(&mut self, factors: Factors) -> Result<(), AllocError>
         requires factors { AreFactors factors.above factors.below }
         requires split { IsSplit self.old }
-        requires weight { self.old.weight ≤ 10 ^ 10 }
+        requires weight { self.old.weight ≤ MOST_WEIGHT }
         ensures balanced { OnOk result (IsBalanced factors.above factors.below self.new) }
         ensures rows { OnOk result ((f : Entry → ℕ) → pool_sum f self.new ≡ pool_sum f self.old) }
     {
@@ -211,7 +213,7 @@ impl QuantilePool {
     fn shed(&mut self, factors: Factors) -> Result<(), AllocError>
         requires factors { AreFactors factors.above factors.below }
         requires split { IsSplit self.old }
-        requires weight { self.old.weight ≤ 10 ^ 10 }
+        requires weight { self.old.weight ≤ MOST_WEIGHT }
         ensures split { OnOk result (IsSplit self.new) }
         ensures least { OnOk result (IsLeastShare factors.above factors.below self.new) }
         ensures rows { OnOk result ((f : Entry → ℕ) → pool_sum f self.new ≡ pool_sum f self.old) }
@@ -226,7 +228,7 @@ impl QuantilePool {
     fn fill(&mut self, factors: Factors) -> Result<(), AllocError>
         requires factors { AreFactors factors.above factors.below }
         requires split { IsSplit self.old }
-        requires weight { self.old.weight ≤ 10 ^ 10 }
+        requires weight { self.old.weight ≤ MOST_WEIGHT }
         requires least { IsLeastShare factors.above factors.below self.old }
         ensures balanced { OnOk result (IsBalanced factors.above factors.below self.new) }
         ensures rows { OnOk result ((f : Entry → ℕ) → pool_sum f self.new ≡ pool_sum f self.old) }
@@ -240,8 +242,8 @@ impl QuantilePool {
     /// Whether rows of this weight are the share of all.
     fn is_share(&self, factors: Factors, weight: u64) -> bool
         requires factors { AreFactors factors.above factors.below }
-        requires all { self.now.weight ≤ 10 ^ 10 }
-        requires weight { weight ≤ 10 ^ 10 }
+        requires all { self.now.weight ≤ MOST_WEIGHT }
+        requires weight { weight ≤ MOST_WEIGHT }
         ensures { IsTrue result ↔ (factors.above * self.now.weight ≤ (factors.above + factors.below) * weight) }
     {
         factors.above * self.weight <= (factors.above + factors.below) * weight
@@ -251,7 +253,7 @@ impl QuantilePool {
     fn has_surplus(&self, factors: Factors) -> bool
         requires factors { AreFactors factors.above factors.below }
         requires split { IsSplit self.now }
-        requires weight { self.now.weight ≤ 10 ^ 10 }
+        requires weight { self.now.weight ≤ MOST_WEIGHT }
         ensures some { IsTrue result → 0 < heap_len self.now.low }
         ensures none { result ≡ false → IsLeastShare factors.above factors.below self.now }
     {
@@ -280,7 +282,7 @@ impl QuantilePool {
     /// Moves the least row of the upper side down.
     fn lower(&mut self) -> Result<(), AllocError>
         requires split { IsSplit self.old }
-        requires weight { self.old.weight ≤ 10 ^ 10 }
+        requires weight { self.old.weight ≤ MOST_WEIGHT }
         requires some { 0 < heap_len self.old.high }
         ensures split { OnOk result (IsSplit self.new) }
         ensures rows { OnOk result ((f : Entry → ℕ) → pool_sum f self.new ≡ pool_sum f self.old) }

@@ -1,6 +1,8 @@
-ghost use Rattle.std.specs.Prelude.{◌≡◌, ◌≤◌, ◌<◌, ◌+◌, ◌*◌, ◌^◌, ℤ, pos, ◌+ℤ◌, ◌*ℤ◌, ◌-ℤ◌, unsigned_abs, true, refl};
+ghost use Rattle.std.specs.Prelude.{◌≡◌, ◌≤◌, ◌<◌, ◌+◌, ◌*◌, ◌^◌, ℤ, pos, ◌*ℤ◌, ◌-ℤ◌, unsigned_abs, true, refl};
+ghost use Rattle.ofit_num.specs.declared.limits.TheConstants.{MOST_UNITS, MOST_WEIGHT};
 ghost use Rattle.ofit_num.specs.Loss.{squares};
-ghost use Rattle.ofit_num.specs.Limits.{AreWithinLimits, total_weight};
+ghost use Rattle.ofit_num.specs.Limits.{total_weight};
+ghost use Rattle.ofit_num.specs.RowLimits.{AreWithinLimits};
 ghost use Rattle.ofit_loss.specs.Squares.{weighted_sum};
 ghost use Rattle.ofit_loss.specs.TableLaws.{squares-laws};
 
@@ -24,10 +26,10 @@ pub struct SquaresPool {
 
 /// A row's value times its weight.
 fn weighted(row: &Row) -> i128
-    requires value { unsigned_abs row.now.value ≤ 10 ^ 9 }
-    requires weight { row.now.weight ≤ 10 ^ 10 }
+    requires value { unsigned_abs row.now.value ≤ MOST_UNITS }
+    requires weight { row.now.weight ≤ MOST_WEIGHT }
     ensures exact { result ≡ row.now.value *ℤ pos row.now.weight }
-    ensures size { unsigned_abs result ≤ 10 ^ 9 * row.now.weight }
+    ensures size { unsigned_abs result ≤ MOST_UNITS * row.now.weight }
 {
     scaled(i128::from(row.value), i128::from(row.weight))
 }
@@ -37,8 +39,8 @@ fn totals(rows: &[Row]) -> SquaresPool
     requires { AreWithinLimits rows.now }
     ensures sum { result.sum ≡ weighted_sum rows.now }
     ensures weight { result.weight ≡ total_weight rows.now }
-    ensures size { unsigned_abs result.sum ≤ 10 ^ 9 * result.weight }
-    ensures within { result.weight ≤ 10 ^ 10 }
+    ensures size { unsigned_abs result.sum ≤ MOST_UNITS * result.weight }
+    ensures within { result.weight ≤ MOST_WEIGHT }
 {
     let mut sum = 0;
     let mut weight = 0;
@@ -53,7 +55,7 @@ fn totals(rows: &[Row]) -> SquaresPool
 /// times its numerator.
 fn balance_at(all: SquaresPool, at: &Frac) -> i128
     requires sum { unsigned_abs all.sum ≤ 10 ^ 19 }
-    requires weight { all.weight ≤ 10 ^ 10 }
+    requires weight { all.weight ≤ MOST_WEIGHT }
     ensures { result ≡ all.sum *ℤ pos at.now.den -ℤ at.now.num *ℤ pos all.weight }
 {
     scaled(all.sum, at.den()) - scaled(at.num(), i128::from(all.weight))

@@ -1,11 +1,12 @@
 -- blocks that absorb one another, as in the fits of chains and trees whose root is greatest
-use Rattle.std.proofs.Common.{◌≡◌, ℕ, zero, suc, ◌-◌, ◌^◌, ◌<◌, refl, ap, subst, ◌∙◌, arith, cond, Bool, true, false, ◌||◌, ◌&&◌, ◌⊎◌, inl, inr}
+use Rattle.std.proofs.Common.{◌≡◌, ℕ, zero, suc, ◌-◌, ◌^◌, ◌<◌, refl, sym, ap, subst, ◌∙◌, arith, cond, Bool, true, false, ◌||◌, ◌&&◌, ◌⊎◌, inl, inr}
 use Rattle.std.proofs.lemmas.Int.{ints, by_lt_z}
 use Rattle.std.proofs.lemmas.Bool.{cases_order, both_ways}
 use Rattle.std.specs.Prelude.{ℤ, pos, ◌+ℤ◌, ◌*ℤ◌, ◌≤ℤ◌, ◌<ℤ◌, All}
 use Rattle.ofit_num.specs.Problem.{Problem}
 use Rattle.ofit_num.specs.Meaning.{Meaning}
-use Rattle.ofit_num.specs.Fraction.{Fraction, AtMost, Below}
+use Rattle.ofit_num.specs.Fraction.{Fraction, AtMost}
+use Rattle.ofit_num.specs.Below.{Below}
 use Rattle.ofit_num.specs.Trial.{Trial}
 use Rattle.ofit_num.specs.Law.{least_at, greatest_at, HasFallingSpans}
 use Rattle.ofit_num.specs.Sets.{set_sum, IsWithin, IsUpperIn, IsLowerIn, IsSplit}
@@ -17,7 +18,7 @@ use Rattle.ofit_num.proofs.Cuts.{difference, set_sum-difference, not_both, union
 use Rattle.ofit_num.proofs.Pieces.{meet, set_sum-split, both_and}
 use Rattle.ofit_num.proofs.Recursion.{not_below, part_fitted, part_loses}
 use Rattle.ofit_num.proofs.Parts.{in_part, base_in, child_in, upper_part, lower_part}
-use Rattle.ofit_num.proofs.Falls.{cost_least, cost_more, rest_upper, rest_lower, rest_within, rest_out, cost_falls, least_stays, least_over_greatest, no_rest}
+use Rattle.ofit_num.proofs.Falls.{set_sum-parted, cost_least, cost_more, rest_upper, rest_lower, rest_within, rest_out, cost_falls, least_stays, least_over_greatest, no_rest}
 
 -- a set has a place, or it has none
 pub member_or_none : (a : ℕ → Bool) (n : ℕ) → ((g : ℕ) × (g < n) × (a g ≡ true)) ⊎ ((g : ℕ) → g < n → a g ≡ false)
@@ -43,6 +44,25 @@ set_sum-equal a b c (suc n) h = ap (λ (x : Bool). set_sum a c n +ℤ cond x (c 
 pub set_sum-both : (piece u w : ℕ → Bool) (f : ℕ → ℤ) (n : ℕ) → ((g : ℕ) → g < n → piece g ≡ (u g || w g)) → ((g : ℕ) → g < n → u g ≡ true → w g ≡ false) → set_sum piece f n ≡ set_sum u f n +ℤ set_sum w f n
 unfolding union
 set_sum-both piece u w f n parts apart = set_sum-equal piece (union u w) f n parts ∙ set_sum-union u w f n apart
+
+-- what changing a set costs of which each of two parts costs, where it has a place
+module _ (strict : Bool) (n : ℕ) (piece base child a : ℕ → Bool) (f : ℕ → ℤ) (parts : (g : ℕ) → g < n → piece g ≡ (base g || child g)) (apart : (g : ℕ) → g < n → base g ≡ true → child g ≡ false)
+    (inside : (g : ℕ) → g < n → a g ≡ true → piece g ≡ true)
+    (base_costs : (g : ℕ) → g < n → meet a base g ≡ true → IsCost strict (set_sum (meet a base) f n)) (child_costs : (g : ℕ) → g < n → meet a child g ≡ true → IsCost strict (set_sum (meet a child) f n)) where
+  pub parts_cost : (g : ℕ) → g < n → a g ≡ true → IsCost strict (set_sum a f n)
+  parts_cost g l k = go (member_or_none (meet a base) n) (member_or_none (meet a child) n) where
+    total : set_sum a f n ≡ set_sum (meet a base) f n +ℤ set_sum (meet a child) f n
+    total = set_sum-parted a base child f n (λ h lh u. sym (parts h lh) ∙ inside h lh u) apart
+
+    go : ((g : ℕ) × (g < n) × (meet a base g ≡ true)) ⊎ ((g : ℕ) → g < n → meet a base g ≡ false) → ((g : ℕ) × (g < n) × (meet a child g ≡ true)) ⊎ ((g : ℕ) → g < n → meet a child g ≡ false) → IsCost strict (set_sum a f n)
+    go (inl x) (inl y) = cost_more strict (set_sum (meet a base) f n) _ (base_costs x.0 x.1 x.2) (omega (arith, ints, total, cost_least strict _ (child_costs y.0 y.1 y.2)))
+    go (inl x) (inr none) = cost_more strict (set_sum (meet a base) f n) _ (base_costs x.0 x.1 x.2) (omega (arith, ints, total, set_sum-none (meet a child) f n none))
+    go (inr none) (inl y) = cost_more strict (set_sum (meet a child) f n) _ (child_costs y.0 y.1 y.2) (omega (arith, ints, total, set_sum-none (meet a base) f n none))
+    go (inr none) (inr none') = absurd (nowhere (base g) (child g) refl refl) where
+      nowhere : (x y : Bool) → base g ≡ x → child g ≡ y → ⊥
+      nowhere true y e h = not_both (meet a base g) (both_and (a g) (base g) k e) (none g l)
+      nowhere false true e h = not_both (meet a child g) (both_and (a g) (child g) k h) (none' g l)
+      nowhere false false e h = not_both (piece g) (inside g l k) (parts g l ∙ ap (λ (z : Bool). z || child g) e ∙ h)
 
 -- what is below a value is below each greater one
 pub below_trans : (a b c : Fraction) → 0 < a.den → 0 < b.den → 0 < c.den → Below a b → AtMost b c → Below a c
@@ -82,6 +102,19 @@ module _ (m : Meaning) (s : Problem) (law : HasFallingSpans m s) where
       | inr none ↦ omega (arith, ints, set_sum-none b (greatest_at m s value) s.count none)
     ]
 
+  -- the value that pools two pieces lies between the values that pool each
+  module _ (piece low high : ℕ → Bool) (b c t : Fraction) (parts : (f : ℕ → ℤ) → set_sum piece f s.count ≡ set_sum low f s.count +ℤ set_sum high f s.count)
+      (lower : IsPooled m s low b) (upper : IsPooled m s high c) (pooled : IsPooled m s piece t) (order : AtMost b c) where
+    pub pooled_below : AtMost t c
+    pooled_below = by_lt_z (c.num *ℤ pos t.den) (t.num *ℤ pos c.den)
+        (λ h. absurd (omega (arith, ints, pooled.smaller c upper.den h, parts (least_at m s c), upper.least, least_stays m s law low b c lower.den upper.den order lower.least)))
+        (λ h. h)
+
+    pub pooled_above : AtMost b t
+    pooled_above = by_lt_z (t.num *ℤ pos b.den) (b.num *ℤ pos t.den)
+        (λ h. absurd (omega (arith, ints, pooled.least, parts (least_at m s t), lower.smaller t pooled.den h, upper.smaller t pooled.den (below_trans t b c pooled.den lower.den upper.den h order))))
+        (λ h. h)
+
   -- A block and the block of a child, of greater value, are one block at the value that pools them: its limit is the child's value.
   module _ (strict : Bool) (piece base child : ℕ → Bool) (top leaf : ℕ) (b be c ce t : Fraction)
       (cut : IsSplit s piece base child) (places : All (λ e. (e.0 < s.count) × (e.1 < s.count)) s.pairs)
@@ -92,30 +125,11 @@ module _ (m : Meaning) (s : Problem) (law : HasFallingSpans m s) where
     parts : (f : ℕ → ℤ) → set_sum piece f s.count ≡ set_sum base f s.count +ℤ set_sum child f s.count
     parts f = set_sum-both piece base child f s.count cut.parts cut.apart
 
-    -- the pooled value lies between the two
     at_most_child : AtMost t c
-    at_most_child = by_lt_z (c.num *ℤ pos t.den) (t.num *ℤ pos c.den)
-        (λ h. absurd (omega (
-          arith,
-          ints,
-          pooled.smaller c upper.pooled.den h,
-          parts (least_at m s c),
-          upper.pooled.least,
-          least_stays m s law base b c lower.pooled.den upper.pooled.den order lower.pooled.least,
-        )))
-        (λ h. h)
+    at_most_child = pooled_below piece base child b c t parts lower.pooled upper.pooled pooled order
 
     at_least_base : AtMost b t
-    at_least_base = by_lt_z (t.num *ℤ pos b.den) (b.num *ℤ pos t.den)
-        (λ h. absurd (omega (
-          arith,
-          ints,
-          pooled.least,
-          parts (least_at m s t),
-          lower.pooled.smaller t pooled.den h,
-          upper.pooled.smaller t pooled.den (below_trans t b c pooled.den lower.pooled.den upper.pooled.den h order),
-        )))
-        (λ h. h)
+    at_least_base = pooled_above piece base child b c t parts lower.pooled upper.pooled pooled order
 
     split_sum : (a : ℕ → Bool) (f : ℕ → ℤ) → IsWithin s piece a → set_sum a f s.count ≡ set_sum (meet a base) f s.count +ℤ set_sum (meet a child) f s.count
     split_sum a f inside = set_sum-split s piece base child a f cut inside s.count (omega arith)
@@ -128,26 +142,8 @@ module _ (m : Meaning) (s : Problem) (law : HasFallingSpans m s) where
     child_costs : (a : ℕ → Bool) → IsLowerIn s piece a → (g : ℕ) → g < s.count → meet a child g ≡ true → IsCost strict (set_sum (meet a child) (greatest_at m s c) s.count)
     child_costs a low g l k = block_costs strict child leaf c ce upper (meet a child) (in_part s child a) (lower_part s places piece child a (child_in s.count piece base child cut.parts) low) g l k
 
-    -- a sum of two parts, one of which costs and the other of which costs or is empty
     absorbed_costs : (a : ℕ → Bool) → IsWithin s piece a → IsLowerIn s piece a → a top ≡ false → (g : ℕ) → g < s.count → a g ≡ true → IsCost strict (set_sum a (greatest_at m s c) s.count)
-    absorbed_costs a inside low out g l k =
-        go (member_or_none (meet a base) s.count) (member_or_none (meet a child) s.count) where
-          total : set_sum a (greatest_at m s c) s.count ≡ set_sum (meet a base) (greatest_at m s c) s.count +ℤ set_sum (meet a child) (greatest_at m s c) s.count
-          total = split_sum a (greatest_at m s c) inside
-
-          go : ((g : ℕ) × (g < s.count) × (meet a base g ≡ true)) ⊎ ((g : ℕ) → g < s.count → meet a base g ≡ false)
-              → ((g : ℕ) × (g < s.count) × (meet a child g ≡ true)) ⊎ ((g : ℕ) → g < s.count → meet a child g ≡ false) → IsCost strict (set_sum a (greatest_at m s c) s.count)
-          go (inl x) (inl y) = cost_more strict (set_sum (meet a base) (greatest_at m s c) s.count) _ (base_costs a low out x.0 x.1 x.2)
-              (omega (arith, ints, total, cost_least strict _ (child_costs a low y.0 y.1 y.2)))
-          go (inl x) (inr none) = cost_more strict (set_sum (meet a base) (greatest_at m s c) s.count) _ (base_costs a low out x.0 x.1 x.2)
-              (omega (arith, ints, total, set_sum-none (meet a child) (greatest_at m s c) s.count none))
-          go (inr none) (inl y) = cost_more strict (set_sum (meet a child) (greatest_at m s c) s.count) _ (child_costs a low y.0 y.1 y.2)
-              (omega (arith, ints, total, set_sum-none (meet a base) (greatest_at m s c) s.count none))
-          go (inr none) (inr none') = absurd (nowhere (base g) (child g) refl refl) where
-            nowhere : (x y : Bool) → base g ≡ x → child g ≡ y → ⊥
-            nowhere true y e f = not_both (meet a base g) (both_and (a g) (base g) k e) (none g l)
-            nowhere false true e f = not_both (meet a child g) (both_and (a g) (child g) k f) (none' g l)
-            nowhere false false e f = not_both (piece g) (inside.each g l k) (cut.parts g l ∙ ap (λ (z : Bool). z || child g) e ∙ f)
+    absorbed_costs a inside low out = parts_cost strict s.count piece base child a (greatest_at m s c) cut.parts cut.apart inside.each (base_costs a low out) (child_costs a low)
 
     risen : (a : ℕ → Bool) → IsWithin s piece a → IsUpperIn s piece a → Below t c → (x : Bool) → a top ≡ x → set_sum a (least_at m s t) s.count ≤ℤ pos 0
     risen a inside up h true e =

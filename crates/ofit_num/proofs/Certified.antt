@@ -12,7 +12,8 @@ use Rattle.ofit_num.specs.Meaning.{Meaning}
 use Rattle.ofit_num.specs.Trial.{Trial}
 use Rattle.ofit_num.specs.Fit.{Obeys, Best, sum_below}
 use Rattle.ofit_num.specs.Span.{InOpenSpan, is_at}
-use Rattle.ofit_num.specs.Flow.{Flow, balance, IsTight, Certifies}
+use Rattle.ofit_num.specs.Flow.{Flow, balance}
+use Rattle.ofit_num.specs.Certificate.{IsTight, Certifies}
 use Rattle.ofit_num.specs.Law.{HasSupport}
 use Rattle.ofit_num.proofs.Order.{zero_mul_ℤ, mul_pos, mul_nonneg, mul_nonpos, swap_ℤ, assoc_swap}
 use Rattle.ofit_num.proofs.Sums.{int_sum, sum_below-scale, int_sum-sub, int_sum-add, int_sum-same, int_sum-zero, int_sum-at, int_sum-mono, int_sum-scale, int_sum-pos}

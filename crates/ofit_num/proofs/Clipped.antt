@@ -11,7 +11,9 @@ use Rattle.ofit_num.specs.Span.{is_at}
 use Rattle.ofit_num.specs.Law.{HasFallingSpans}
 use Rattle.ofit_num.specs.Sets.{set_sum, IsClosedUp, IsClosedDown}
 use Rattle.ofit_num.specs.Settled.{IsSettled, IsLeastSettled, CanRise, CanFall}
-use Rattle.ofit_num.specs.Clipped.{without_bounds, HasConstantBounds, AreOrdered, raised_to, lowered_to, clipped}
+use Rattle.ofit_num.specs.Clipped.{HasConstantBounds, raised_to, lowered_to, clipped}
+use Rattle.ofit_num.specs.Unbounded.{without_bounds}
+use Rattle.ofit_num.specs.BoundOrder.{AreOrdered}
 use Rattle.ofit_num.proofs.Order.{mul_pos, mul_strict, pow_above, cancel_le_ℤ}
 use Rattle.ofit_num.proofs.Falls.{set_sum-members}
 

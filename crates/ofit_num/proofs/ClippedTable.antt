@@ -4,13 +4,16 @@ use Rattle.std.proofs.lemmas.List.{length-map}
 use Rattle.std.proofs.lemmas.Option.{slice_get-map, slice_get_within, same_Some}
 use Rattle.std.specs.Option.{option_map}
 use Rattle.std.specs.Prelude.{ℤ, Option, Some, slice_get}
-use Rattle.ofit_num.specs.Problem.{Problem, Bounds, HasPlaces}
+use Rattle.ofit_num.specs.Problem.{Problem, Bounds}
+use Rattle.ofit_num.specs.ProblemPairs.{HasPlaces}
 use Rattle.ofit_num.specs.Meaning.{Meaning}
 use Rattle.ofit_num.specs.Fraction.{Fraction}
 use Rattle.ofit_num.specs.Trial.{trial_of}
 use Rattle.ofit_num.specs.Fit.{BestValues, LeastBestValues}
 use Rattle.ofit_num.specs.Loss.{Factors, squares, median, row_sum, table_loss}
-use Rattle.ofit_num.specs.Clipped.{without_bounds, HasConstantBounds, AreOrdered, AreClipped, clip}
+use Rattle.ofit_num.specs.Clipped.{HasConstantBounds, AreClipped, clip}
+use Rattle.ofit_num.specs.Unbounded.{without_bounds}
+use Rattle.ofit_num.specs.BoundOrder.{AreOrdered}
 use Rattle.ofit_num.proofs.Lists.{same_lists}
 use Rattle.ofit_num.proofs.Trials.{fraction_at}
 use Rattle.ofit_num.proofs.TableSupport.{absolute-support, squared-support}

@@ -5,14 +5,18 @@ use Rattle.std.proofs.lemmas.Bool.{cond_both}
 use Rattle.std.proofs.lemmas.List.{length-map}
 use Rattle.std.specs.Prelude.{ℤ, pos, ◌*ℤ◌, ◌≤ℤ◌, ◌<ℤ◌, Option, Some, None, slice_get, int_lt}
 use Rattle.std.specs.Int.{int_max, int_min}
-use Rattle.ofit_num.specs.Problem.{Problem, HasPlaces}
+use Rattle.ofit_num.specs.Problem.{Problem}
+use Rattle.ofit_num.specs.ProblemPairs.{HasPlaces}
 use Rattle.ofit_num.specs.Meaning.{Meaning}
 use Rattle.ofit_num.specs.Fraction.{Fraction}
-use Rattle.ofit_num.specs.Trial.{Trial, trial_of, scale_of, Represents, EqualBelow}
+use Rattle.ofit_num.specs.Trial.{Trial, trial_of, scale_of}
+use Rattle.ofit_num.specs.TrialValues.{Represents, EqualBelow}
 use Rattle.ofit_num.specs.Fit.{BestValues, LeastBestValues}
 use Rattle.ofit_num.specs.Law.{HasSupport, HasFallingSpans}
 use Rattle.ofit_num.specs.Settled.{IsSettled, IsLeastSettled}
-use Rattle.ofit_num.specs.Clipped.{without_bounds, HasConstantBounds, AreOrdered, whole, clip, clip_low, clip_high, raised_to, lowered_to, clipped}
+use Rattle.ofit_num.specs.Clipped.{HasConstantBounds, whole, clip, clip_low, clip_high, raised_to, lowered_to, clipped}
+use Rattle.ofit_num.specs.Unbounded.{without_bounds}
+use Rattle.ofit_num.specs.BoundOrder.{AreOrdered}
 use Rattle.ofit_num.proofs.Order.{equal_at_most, equal_at_least}
 use Rattle.ofit_num.proofs.TableScaling.{times_one}
 use Rattle.ofit_num.proofs.Trials.{scale_above, trial_of-represents, EqualBelow-represents}

@@ -3,7 +3,8 @@ use Rattle.std.proofs.Common.{◌≡◌, ℕ, zero, suc, ◌+◌, ◌*◌, ◌^�
 use Rattle.std.specs.Prelude.{Option, Some, None, IfNone, Bool, true, false, ℤ, pos, ◌+ℤ◌, unsigned_abs}
 use Rattle.std.specs.List.{AllByRecursion}
 use Rattle.ofit_num.specs.NumberText.{IsDigit, spelled_after}
-use Rattle.ofit_num.specs.DecimalText.{IsSpaces, IsSign, IsPoint, IsPower, IsEnd, IsUnsigned, IsDecimal, IsScaled, IsUnits, IsNumber, Stops, with_sign}
+use Rattle.ofit_num.specs.DecimalText.{IsSpaces, IsSign, IsPoint, IsPower, IsEnd, IsUnsigned, IsDecimal, IsScaled, IsUnits, IsNumber, with_sign}
+use Rattle.ofit_num.specs.Digits.{Stops}
 use Rattle.ofit_num.proofs.Runs.{one_cut, one_sign, one_point, stops_less, stops_front, head_of, tail_of, IsPlusOrMinus, IsDigitOrPoint}
 use Rattle.ofit_num.proofs.Scaled.{one_size}
 

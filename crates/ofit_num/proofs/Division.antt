@@ -5,7 +5,8 @@ use Rattle.std.proofs.lemmas.Bool.{both_ways, cases_eq, cases_order}
 use Rattle.std.specs.Prelude.{ℤ, pos, ◌+ℤ◌, ◌*ℤ◌, ◌≤ℤ◌, ◌<ℤ◌, All, slice_index_or}
 use Rattle.ofit_num.specs.Problem.{Problem}
 use Rattle.ofit_num.specs.Meaning.{Meaning}
-use Rattle.ofit_num.specs.Fraction.{Fraction, AtMost, Below}
+use Rattle.ofit_num.specs.Fraction.{Fraction, AtMost}
+use Rattle.ofit_num.specs.Below.{Below}
 use Rattle.ofit_num.specs.Law.{least_at, greatest_at, HasFallingSpans}
 use Rattle.ofit_num.specs.Sets.{set_sum, IsWithin, IsUpperIn, IsLowerIn, IsSplit, IsGreatestUpper, IsSmallest}
 use Rattle.ofit_num.specs.Block.{IsPooled, IsCost, HasFloor, HasCeiling}

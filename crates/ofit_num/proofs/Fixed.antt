@@ -6,7 +6,8 @@ use Rattle.std.proofs.Math.Nat.{pow-succ', div-le_self}
 use Rattle.std.specs.Prelude.{Result, Ok, Err, OnOk, Bool, true, false, ℤ, pos, negsuc, unsigned_abs, decimal}
 use Rattle.std.specs.List.{AllByRecursion}
 use Rattle.ofit_num.specs.NumberText.{IsDigit, IsWhole, spelled_after}
-use Rattle.ofit_num.specs.DecimalText.{IsSign, IsPoint, IsUnits, IsFixed, ArePadded, with_sign, minus_of, pointed}
+use Rattle.ofit_num.specs.DecimalText.{IsSign, IsPoint, IsUnits, IsFixed, with_sign, minus_of, pointed}
+use Rattle.ofit_num.specs.Digits.{ArePadded}
 use Rattle.ofit_num.proofs.Runs.{all_same, all_more, tail_of}
 use Rattle.ofit_num.proofs.Scaled.{spelled_shift, spelled_below, ten_positive}
 use Rattle.ofit_num.proofs.Spelled.{spelled_after-append}

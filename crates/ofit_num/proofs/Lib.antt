@@ -58,3 +58,4 @@ pub mod Pigeonhole
 pub mod Members
 pub mod Elements
 pub mod LoneBlocks
+pub mod Names

@@ -6,9 +6,11 @@ use Rattle.std.proofs.lemmas.Bool.Decides.{nat_tests}
 use Rattle.std.proofs.Math.Nat.{pow-succ'}
 use Rattle.std.specs.Prelude.{ℤ, pos, negsuc, ◌+ℤ◌, ◌-ℤ◌, ◌*ℤ◌, ◌≤ℤ◌, ◌<ℤ◌}
 use borrow.Author.Differences.{up, down}
-use Rattle.ofit_num.specs.Problem.{Problem, HasPlaces}
+use Rattle.ofit_num.specs.Problem.{Problem}
+use Rattle.ofit_num.specs.ProblemPairs.{HasPlaces}
 use Rattle.ofit_num.specs.Meaning.{Meaning}
-use Rattle.ofit_num.specs.Trial.{Trial, EqualBelow}
+use Rattle.ofit_num.specs.Trial.{Trial}
+use Rattle.ofit_num.specs.TrialValues.{EqualBelow}
 use Rattle.ofit_num.specs.Fit.{Best, LeastBest, sum_below, trial_cost}
 use Rattle.ofit_num.specs.Law.{HasSupport, HasScaling}
 use Rattle.ofit_num.specs.Sets.{set_sum, IsClosedUp, IsClosedDown}

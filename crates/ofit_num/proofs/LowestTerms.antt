@@ -7,7 +7,8 @@ use Rattle.std.proofs.lemmas.Int.{ints}
 use Rattle.std.specs.Prelude.{ℤ, pos, negsuc, ◌*ℤ◌, ◌≤ℤ◌}
 use Rattle.std.specs.Int.{IsGcd}
 use Rattle.std.specs.Int.RustNames.{unsigned_abs}
-use Rattle.ofit_num.specs.Reduced.{Reduces, signed_as}
+use Rattle.ofit_num.specs.Reduced.{Reduces}
+use Rattle.ofit_num.specs.Signed.{signed_as}
 
 pub size_of_signed : (z : ℤ) (k : ℕ) → unsigned_abs (signed_as z k) ≡ k
 size_of_signed (pos n) k = refl

@@ -5,13 +5,15 @@ use Rattle.std.proofs.lemmas.Bool.Decides.{nat_tests, Decides-int_eq}
 use Rattle.std.proofs.lemmas.List.Elements.{All-from_recursion, All-map}
 use Rattle.std.specs.Prelude.{ℤ, pos, ◌+ℤ◌, ◌-ℤ◌, ◌*ℤ◌, ◌≤ℤ◌, All, Contains, slice_get, Option, Some, None}
 use Rattle.std.specs.List.{AllByRecursion}
-use Rattle.ofit_num.specs.Problem.{Problem, HasPlaces}
+use Rattle.ofit_num.specs.Problem.{Problem}
+use Rattle.ofit_num.specs.ProblemPairs.{HasPlaces}
 use Rattle.ofit_num.specs.Meaning.{Meaning}
 use Rattle.ofit_num.specs.Fraction.{Fraction, AtMost, SameValue, IsLowest}
 use Rattle.ofit_num.specs.Trial.{scale_of, value_of, trial_of}
 use Rattle.ofit_num.specs.Fit.{Obeys, BestValues}
 use Rattle.ofit_num.specs.Span.{is_at, InOpenSpan}
-use Rattle.ofit_num.specs.Flow.{Flow, balance, IsTight}
+use Rattle.ofit_num.specs.Flow.{Flow, balance}
+use Rattle.ofit_num.specs.Certificate.{IsTight}
 use Rattle.ofit_num.specs.Law.{HasSupport, HasScaling}
 use Rattle.ofit_num.specs.Sheet.{Sheet, FitsCount, sheet_value, sheet_values}
 use Rattle.ofit_num.specs.Verdict.{AllBelow, HasValue, Passes}

@@ -5,7 +5,8 @@ use Rattle.std.specs.Prelude.{ℤ, pos, ◌+ℤ◌, ◌*ℤ◌, ◌≤ℤ◌, �
 use Rattle.ofit_num.proofs.Gap.{is_gap, gap-same, gap-mul, pos-gap, distr}
 use Rattle.ofit_num.specs.Problem.{Problem}
 use Rattle.ofit_num.specs.Meaning.{Meaning}
-use Rattle.ofit_num.specs.Fraction.{Fraction, AtMost, Below}
+use Rattle.ofit_num.specs.Fraction.{Fraction, AtMost}
+use Rattle.ofit_num.specs.Below.{Below}
 use Rattle.ofit_num.specs.Trial.{Trial}
 use Rattle.ofit_num.specs.Law.{least_at, greatest_at, HasFallingSpans}
 use Rattle.ofit_num.specs.Sets.{set_sum, IsWithin, IsUpperIn, IsLowerIn, IsSplit, IsGreatestUpper, IsSmallest}

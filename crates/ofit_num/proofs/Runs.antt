@@ -4,7 +4,8 @@ use Rattle.std.proofs.lemmas.List.{drop_more, take_more, drop_all}
 use Rattle.std.specs.Prelude.{Bool, true, false}
 use Rattle.std.specs.List.{AllByRecursion}
 use Rattle.ofit_num.specs.NumberText.{IsDigit}
-use Rattle.ofit_num.specs.DecimalText.{IsSign, IsPoint, Stops}
+use Rattle.ofit_num.specs.DecimalText.{IsSign, IsPoint}
+use Rattle.ofit_num.specs.Digits.{Stops}
 
 pub head_of : (b c : ℕ) (bs cs : List ℕ) → b ∷ bs ≡ c ∷ cs → b ≡ c
 head_of b c bs cs e = cc

@@ -2,9 +2,11 @@
 use Rattle.std.proofs.Common.{◌≡◌, ℕ, ◌*◌, ◌^◌, ◌<◌, ◌≤◌, sym, ap₂, ◌∙◌, arith, mul-le-mul_left}
 use Rattle.std.proofs.lemmas.Int.{ints}
 use Rattle.std.specs.Prelude.{ℤ, pos, ◌*ℤ◌, ◌≤ℤ◌, Option, Some, None, IfSome}
-use Rattle.ofit_num.specs.Problem.{Problem, HasPlaces}
+use Rattle.ofit_num.specs.Problem.{Problem}
+use Rattle.ofit_num.specs.ProblemPairs.{HasPlaces}
 use Rattle.ofit_num.specs.Meaning.{Meaning}
-use Rattle.ofit_num.specs.Trial.{Trial, EqualBelow}
+use Rattle.ofit_num.specs.Trial.{Trial}
+use Rattle.ofit_num.specs.TrialValues.{EqualBelow}
 use Rattle.ofit_num.specs.Fit.{Obeys, trial_cost, NoDearer, Best, LeastBest}
 use Rattle.ofit_num.specs.Law.{HasScaling}
 use Rattle.ofit_num.proofs.Order.{mul_pos, pow_above, cancel_le, cancel_le_ℤ, assoc_swap, equal_at_most}

@@ -3,9 +3,11 @@ use Rattle.std.proofs.Common.{◌≡◌, ℕ, ◌-◌, ◌^◌, ◌<◌, refl, s
 use Rattle.std.proofs.lemmas.Int.{ints}
 use Rattle.std.proofs.lemmas.Bool.Decides.{Decides-int_eq, not_from_Decides}
 use Rattle.std.specs.Prelude.{ℤ, pos, ◌*ℤ◌, ◌≤ℤ◌, Option, Some, None}
-use Rattle.ofit_num.specs.Problem.{Problem, HasPlaces}
+use Rattle.ofit_num.specs.Problem.{Problem}
+use Rattle.ofit_num.specs.ProblemPairs.{HasPlaces}
 use Rattle.ofit_num.specs.Meaning.{Meaning}
-use Rattle.ofit_num.specs.Trial.{Trial, EqualBelow}
+use Rattle.ofit_num.specs.Trial.{Trial}
+use Rattle.ofit_num.specs.TrialValues.{EqualBelow}
 use Rattle.ofit_num.specs.Span.{is_at}
 use Rattle.ofit_num.specs.Law.{HasFallingSpans}
 use Rattle.ofit_num.specs.Sets.{set_sum, IsClosedUp, IsClosedDown}

@@ -7,7 +7,8 @@ use Rattle.std.specs.Prelude.{ℤ, pos, ◌+ℤ◌, ◌-ℤ◌, ◌*ℤ◌, ◌�
 use borrow.Author.Differences.{up, down}
 use Rattle.ofit_num.specs.Problem.{Problem}
 use Rattle.ofit_num.specs.Meaning.{Meaning}
-use Rattle.ofit_num.specs.Fraction.{Fraction, Below}
+use Rattle.ofit_num.specs.Fraction.{Fraction}
+use Rattle.ofit_num.specs.Below.{Below}
 use Rattle.ofit_num.specs.Trial.{Trial}
 use Rattle.ofit_num.specs.Fit.{Obeys, sum_below, trial_cost, Best, LeastBest}
 use Rattle.ofit_num.specs.Law.{least_at, greatest_at, HasSupport}

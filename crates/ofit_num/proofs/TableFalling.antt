@@ -5,7 +5,8 @@ use Rattle.std.proofs.Math.IntN.{*ℤ-negsuc}
 use Rattle.std.specs.Prelude.{ℤ, pos, negsuc, ◌-ℤ◌, ◌*ℤ◌, ◌≤ℤ◌, ◌<ℤ◌}
 use Rattle.ofit_num.specs.declared.row.Row.{Row}
 use Rattle.ofit_num.specs.Problem.{Problem}
-use Rattle.ofit_num.specs.Fraction.{Fraction, SameValue, Below}
+use Rattle.ofit_num.specs.Fraction.{Fraction, SameValue}
+use Rattle.ofit_num.specs.Below.{Below}
 use Rattle.ofit_num.specs.Law.{HasFallingSpans}
 use Rattle.ofit_num.specs.Loss.{Factors, residual, int_row_sum, absolute_least, absolute_greatest, squared_end, table_loss}
 use Rattle.ofit_num.proofs.Gap.{distr}

@@ -2,10 +2,12 @@
 use Rattle.std.proofs.Common.{◌≡◌, ℕ, zero, suc, ◌*◌, ◌<◌, refl, ap, subst, ◌∙◌, arith, mul-pos, List, [], ◌∷◌, length}
 use Rattle.std.proofs.lemmas.Int.{ints}
 use Rattle.std.specs.Prelude.{ℤ, pos, ◌*ℤ◌, slice_get, Some}
-use Rattle.ofit_num.specs.Problem.{Problem, HasPlaces}
+use Rattle.ofit_num.specs.Problem.{Problem}
+use Rattle.ofit_num.specs.ProblemPairs.{HasPlaces}
 use Rattle.ofit_num.specs.Meaning.{Meaning}
 use Rattle.ofit_num.specs.Fraction.{Fraction}
-use Rattle.ofit_num.specs.Trial.{Trial, scale_of, value_of, trial_of, Represents, EqualBelow}
+use Rattle.ofit_num.specs.Trial.{Trial, scale_of, value_of, trial_of}
+use Rattle.ofit_num.specs.TrialValues.{Represents, EqualBelow}
 use Rattle.ofit_num.specs.Fit.{Best, LeastBest, BestValues, LeastBestValues}
 use Rattle.ofit_num.specs.Law.{HasScaling}
 use Rattle.ofit_num.proofs.Order.{assoc_swap, mul_pos_mul, cancel_ℤ}

@@ -1,5 +1,5 @@
 -- A sheet has at most one verdict.
-use Rattle.std.proofs.Common.{◌≡◌, ℕ, zero, suc, ◌<◌, ◌≤◌, inl, inr, refl, sym, ap, subst, arith, length}
+use Rattle.std.proofs.Common.{◌≡◌, ℕ, zero, suc, ◌<◌, ◌≤◌, inl, inr, refl, ap, arith, length, below_more}
 use Rattle.std.proofs.lemmas.Bool.{cases_order}
 use Rattle.std.specs.Prelude.{⊤}
 use Rattle.ofit_num.specs.Problem.{Problem}
@@ -45,6 +45,21 @@ FailsFirst-same P n i j f h = elim (cases_order i j) [
   | inr o ↦ elim o [ inl l ↦ absurd (f.fails (h.before i l)) | inr l ↦ absurd (h.fails (f.before j l)) ]
 ]
 
+pub not_all : (P : ℕ → Type 0) (n i : ℕ) → FailsFirst P n i → AllBelow P n → ⊥
+not_all P n i f h = f.fails (h i f.below)
+
+-- Things are looked at one after another, and a verdict tells the first that isn't in order, or that all are. So as many are in order before each of two verdicts.
+module _ {V : Type 0} (Item : ℕ → Type 0) (IsGiven : V → Type 0) (depth : V → ℕ) (last : ℕ)
+    (past : (v : V) → IsGiven v → (k : ℕ) → k < depth v → Item k) (at_fault : (v : V) → IsGiven v → depth v < last → Item (depth v) → ⊥) (most : (v : V) → depth v ≤ last) where
+  pub one_depth : (v w : V) → IsGiven v → IsGiven w → depth v ≡ depth w
+  one_depth v w h k = elim (cases_order (depth v) (depth w)) [
+    | inl e ↦ e
+    | inr o ↦ elim o [
+      | inl l ↦ absurd (at_fault v h (omega (arith, most w)) (past w k (depth v) l))
+      | inr l ↦ absurd (at_fault w k (omega (arith, most v)) (past v h (depth w) l))
+    ]
+  ]
+
 -- how many things are in order before the verdict is found
 abbrev depth : Verdict → ℕ
 depth settings_differ = 0
@@ -72,42 +87,36 @@ module _ {S : Type 0} (m : Meaning) (s : Problem) (own : S) (x : Sheet S) where
   Item (suc (suc (suc (suc (suc (suc (suc (suc zero)))))))) = AllBelow (IsBalanced m s x) s.count
   Item (suc (suc (suc (suc (suc (suc (suc (suc (suc n))))))))) = ⊤
 
-  one_more : (n : ℕ) → ((k : ℕ) → k < n → Item k) → Item n → (k : ℕ) → k < suc n → Item k
-  one_more n h i k l = elim (cases_order k n) [
-    | inl e ↦ subst Item (sym e) i
-    | inr o ↦ elim o [ inl b ↦ h k b | inr b ↦ absurd (omega arith) ]
-  ]
-
   none : (k : ℕ) → k < 0 → Item k
   none k l = absurd (omega arith)
 
   sized : IsSized s own x → (k : ℕ) → k < 2 → Item k
-  sized r = one_more 1 (one_more 0 none r.settings) r.size
+  sized r = below_more Item 1 (below_more Item 0 none r.settings) r.size
 
   complete : IsComplete s own x → (k : ℕ) → k < 3 → Item k
-  complete r = one_more 2 (sized r.sized) r.complete
+  complete r = below_more Item 2 (sized r.sized) r.complete
 
   obedient : IsObedient s own x → (k : ℕ) → k < 4 → Item k
-  obedient r = one_more 3 (complete r.complete) r.rises
+  obedient r = below_more Item 3 (complete r.complete) r.rises
 
   within : IsWithinBounds s own x → (k : ℕ) → k < 5 → Item k
-  within r = one_more 4 (obedient r.obedient) r.within
+  within r = below_more Item 4 (obedient r.obedient) r.within
 
   on_pairs : FlowsOnPairs s own x → (k : ℕ) → k < 6 → Item k
-  on_pairs r = one_more 5 (within r.within_bounds) r.on_pairs
+  on_pairs r = below_more Item 5 (within r.within_bounds) r.on_pairs
 
   in_order : FlowsInOrder s own x → (k : ℕ) → k < 7 → Item k
-  in_order r = one_more 6 (on_pairs r.on_pairs) r.in_order
+  in_order r = below_more Item 6 (on_pairs r.on_pairs) r.in_order
 
   tight : FlowsAreTight s own x → (k : ℕ) → k < 8 → Item k
-  tight r = one_more 7 (in_order r.in_order) r.tight
+  tight r = below_more Item 7 (in_order r.in_order) r.tight
 
   all_nine : Passes m s own x → (k : ℕ) → k < 9 → Item k
-  all_nine r = one_more 8 (tight r.tight) r.balances
+  all_nine r = below_more Item 8 (tight r.tight) r.balances
 
   past : (v : Verdict) → IsVerdict m s own x v → (k : ℕ) → k < depth v → Item k
   past settings_differ h = none
-  past size_differs h = one_more 0 none h.0
+  past size_differs h = below_more Item 0 none h.0
   past (group_missing g) h = sized h.0
   past (disobeys i) h = complete h.0
   past (out_of_bounds g) h = obedient h.0
@@ -120,23 +129,20 @@ module _ {S : Type 0} (m : Meaning) (s : Problem) (own : S) (x : Sheet S) where
   past (balance_outside g) h = tight h.0
   past passes h = all_nine h
 
-  broken : (P : ℕ → Type 0) (n i : ℕ) → FailsFirst P n i → AllBelow P n → ⊥
-  broken P n i f h = f.fails (h i f.below)
-
   -- what the verdict says isn't in order
   at_fault : (v : Verdict) → IsVerdict m s own x v → depth v < 9 → Item (depth v) → ⊥
   at_fault settings_differ h l i = h i
   at_fault size_differs h l i = h.1 i
-  at_fault (group_missing g) h l i = broken (HasValue x) s.count g h.1 i
-  at_fault (disobeys k) h l i = broken (RisesAlong s x) (length s.pairs) k h.1 i
-  at_fault (out_of_bounds g) h l i = broken (IsInBounds s x) s.count g h.1 i
+  at_fault (group_missing g) h l i = not_all (HasValue x) s.count g h.1 i
+  at_fault (disobeys k) h l i = not_all (RisesAlong s x) (length s.pairs) k h.1 i
+  at_fault (out_of_bounds g) h l i = not_all (IsInBounds s x) s.count g h.1 i
   at_fault (flow_not_pair zero) h l i = h
-  at_fault (flow_not_pair (suc k)) h l i = broken (IsOnPair s x) (length x.flows) k h.1 i
+  at_fault (flow_not_pair (suc k)) h l i = not_all (IsOnPair s x) (length x.flows) k h.1 i
   at_fault (flow_order zero) h l i = h
-  at_fault (flow_order (suc k)) h l i = broken (IsInOrder s x) (length x.flows) k h.1 i
+  at_fault (flow_order (suc k)) h l i = not_all (IsInOrder s x) (length x.flows) k h.1 i
   at_fault (flow_not_tight zero) h l i = h
-  at_fault (flow_not_tight (suc k)) h l i = broken (JoinsEqual x) (length x.flows) k h.1 i
-  at_fault (balance_outside g) h l i = broken (IsBalanced m s x) s.count g h.1 i
+  at_fault (flow_not_tight (suc k)) h l i = not_all (JoinsEqual x) (length x.flows) k h.1 i
+  at_fault (balance_outside g) h l i = not_all (IsBalanced m s x) s.count g h.1 i
   at_fault passes h l i = absurd (omega arith)
 
   depth_le : (v : Verdict) → depth v ≤ 9
@@ -150,15 +156,6 @@ module _ {S : Type 0} (m : Meaning) (s : Problem) (own : S) (x : Sheet S) where
   depth_le (flow_not_tight i) = omega arith
   depth_le (balance_outside g) = omega arith
   depth_le passes = omega arith
-
-  same_depth : (v w : Verdict) → IsVerdict m s own x v → IsVerdict m s own x w → depth v ≡ depth w
-  same_depth v w h k = elim (cases_order (depth v) (depth w)) [
-    | inl e ↦ e
-    | inr o ↦ elim o [
-      | inl l ↦ absurd (at_fault v h (omega (arith, depth_le w)) (past w k (depth v) l))
-      | inr l ↦ absurd (at_fault w k (omega (arith, depth_le v)) (past v h (depth w) l))
-    ]
-  ]
 
   at_one_depth : (v w : Verdict) → IsVerdict m s own x v → IsVerdict m s own x w → depth v ≡ depth w → v ≡ w
   at_one_depth settings_differ settings_differ h k e = refl
@@ -181,4 +178,4 @@ module _ {S : Type 0} (m : Meaning) (s : Problem) (own : S) (x : Sheet S) where
 
   -- Two verdicts of one sheet are the same.
   pub one_verdict : (v w : Verdict) → IsVerdict m s own x v → IsVerdict m s own x w → v ≡ w
-  one_verdict v w h k = at_one_depth v w h k (same_depth v w h k)
+  one_verdict v w h k = at_one_depth v w h k (one_depth Item (IsVerdict m s own x) depth 9 past at_fault depth_le v w h k)

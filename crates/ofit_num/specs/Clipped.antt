@@ -1,23 +1,13 @@
 -- Values cut off at a lower and an upper bound in whole units, each where there is one.
-use Rattle.std.specs.Prelude.{◌≡◌, ℕ, ◌<◌, cond, List, length, slice_get, Option, Some, None, ℤ, pos, ◌*ℤ◌, ◌≤ℤ◌, int_lt, ⊤}
+use Rattle.std.specs.Prelude.{◌≡◌, ℕ, ◌<◌, cond, List, length, slice_get, Option, Some, None, ℤ, pos, ◌*ℤ◌, int_lt}
 use Rattle.std.specs.Int.{int_max, int_min}
-use Rattle.ofit_num.specs.Problem.{Problem, Bounds, no_bounds}
+use Rattle.ofit_num.specs.Problem.{Problem, Bounds}
 use Rattle.ofit_num.specs.Fraction.{Fraction}
 use Rattle.ofit_num.specs.Trial.{Trial}
-
--- the problem with no bound at any place
-abbrev pub without_bounds : Problem → Problem
-without_bounds s = record { count = s.count; rows = s.rows; pairs = s.pairs; bounds = no_bounds }
 
 -- each place has these bounds
 pub record HasConstantBounds (s : Problem) (lo hi : Option ℤ) : Type 0 where
   pub each : (g : ℕ) → g < s.count → ◌≡◌ {A = Bounds} (s.bounds g) (record { lo = lo; hi = hi })
-
--- the lower bound is at most the upper one, where both stand
-abbrev pub AreOrdered : Option ℤ → Option ℤ → Type 0
-AreOrdered None hi = ⊤
-AreOrdered (Some l) None = ⊤
-AreOrdered (Some l) (Some h) = l ≤ℤ h
 
 -- a whole number as a fraction
 abbrev pub whole : ℤ → Fraction

@@ -1,5 +1,5 @@
 -- Decimals, by the cases of their grammar, and the canonical text of a number of units.
-use Rattle.std.specs.Prelude.{◌≡◌, ℕ, ◌+◌, ◌*◌, ◌^◌, ◌≤◌, ◌<◌, ◌⊎◌, Bool, true, false, List, [], ◌∷◌, ◌++◌, length, codes, ℤ, pos, negsuc, ◌+ℤ◌, unsigned_abs, Result, Ok, Err, ⊤}
+use Rattle.std.specs.Prelude.{◌≡◌, ℕ, ◌+◌, ◌*◌, ◌^◌, ◌≤◌, ◌<◌, ◌⊎◌, Bool, true, false, List, [], ◌∷◌, ◌++◌, length, codes, ℤ, pos, negsuc, ◌+ℤ◌, unsigned_abs, Result, Ok, Err}
 use Rattle.std.specs.List.{AllByRecursion}
 use Rattle.ofit_num.specs.declared.decimal.NumFault.{NumFault}
 use Rattle.ofit_num.specs.declared.decimal.NumFault.TheVariants.{NotNumber, TooFine, TooLarge}
@@ -121,14 +121,3 @@ pub record IsFixed (text : List ℕ) (z : ℤ) (places : ℕ) : Type 0 where
   pub are_digits : AllByRecursion IsDigit fraction
   pub as_many : length fraction ≡ places
   pub units : unsigned_abs z ≡ spelled_after 0 (whole ++ fraction)
-
--- the text doesn't begin with such a byte
-abbrev pub Stops : (ℕ → Type 0) → List ℕ → Type 0
-Stops P [] = ⊤
-Stops P (b ∷ bs) = P b → ⊥
-
--- digits, as many as count, that spell the number
-pub record ArePadded (digits : List ℕ) (count number : ℕ) : Type 0 where
-  pub are_digits : AllByRecursion IsDigit digits
-  pub as_many : length digits ≡ count
-  pub spells : spelled_after 0 digits ≡ number

@@ -1,5 +1,5 @@
 -- Fractions, compared by cross products.
-use Rattle.std.specs.Prelude.{◌≡◌, ℕ, ◌<◌, ℤ, pos, ◌*ℤ◌, ◌≤ℤ◌, ◌<ℤ◌, unsigned_abs}
+use Rattle.std.specs.Prelude.{◌≡◌, ℕ, ◌<◌, ℤ, pos, ◌*ℤ◌, ◌≤ℤ◌, unsigned_abs}
 use Rattle.std.specs.Int.{IsGcd}
 
 -- the value num/den
@@ -9,9 +9,6 @@ pub record Fraction : Type 0 where
 
 abbrev pub AtMost : Fraction → Fraction → Type 0
 AtMost c b = (c.num *ℤ pos b.den) ≤ℤ (b.num *ℤ pos c.den)
-
-abbrev pub Below : Fraction → Fraction → Type 0
-Below c b = (c.num *ℤ pos b.den) <ℤ (b.num *ℤ pos c.den)
 
 abbrev pub SameValue : Fraction → Fraction → Type 0
 SameValue c b = c.num *ℤ pos b.den ≡ b.num *ℤ pos c.den

@@ -2,7 +2,8 @@
 use Rattle.std.specs.Prelude.{◌≡◌, ℕ, ◌*◌, ◌-◌, ◌^◌, ◌<◌, ℤ, pos, ◌+ℤ◌, ◌-ℤ◌, ◌*ℤ◌, ◌≤ℤ◌}
 use Rattle.ofit_num.specs.Problem.{Problem}
 use Rattle.ofit_num.specs.Meaning.{Meaning}
-use Rattle.ofit_num.specs.Fraction.{Fraction, Below, SameValue}
+use Rattle.ofit_num.specs.Fraction.{Fraction, SameValue}
+use Rattle.ofit_num.specs.Below.{Below}
 
 -- each number in the span at p/q supports the cost from below
 pub record HasSupport (m : Meaning) (s : Problem) : Type 0 where

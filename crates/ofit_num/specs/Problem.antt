@@ -1,5 +1,5 @@
 -- A problem of isotonic regression: groups at places, their rows, the order between them, and bounds.
-use Rattle.std.specs.Prelude.{ℕ, List, [], length, slice_get, unwrap_or, Option, None, ℤ, ◌≡◌, ◌<◌, All, AllPairs}
+use Rattle.std.specs.Prelude.{ℕ, List, [], length, slice_get, unwrap_or, Option, ℤ}
 use Rattle.ofit_num.specs.declared.row.Row.{Row}
 
 -- the least and the greatest value that a group may have, each where there is one
@@ -22,14 +22,3 @@ problem_of groups pairs bounds = record {
   pairs = pairs;
   bounds = bounds;
 }
-
-abbrev pub no_bounds : ℕ → Bounds
-no_bounds g = record { lo = None; hi = None }
-
--- no pair stands twice
-abbrev pub HasDistinctPairs : Problem → Type 0
-HasDistinctPairs s = AllPairs (λ e f. e ≡ f → ⊥) s.pairs
-
--- the order is between places of the problem
-abbrev pub HasPlaces : Problem → Type 0
-HasPlaces s = All (λ e. (e.0 < s.count) × (e.1 < s.count)) s.pairs

@@ -16,8 +16,3 @@ pub record Reduces (num den : ℤ) (f : Fraction) : Type 0 where
 abbrev pub negated : ℕ → ℤ
 negated zero = pos 0
 negated (suc k) = negsuc k
-
--- the number of size k that has the sign of the first
-abbrev pub signed_as : ℤ → ℕ → ℤ
-signed_as (pos n) k = pos k
-signed_as (negsuc n) k = negated k

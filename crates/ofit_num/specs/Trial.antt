@@ -1,5 +1,5 @@
 -- A value for each place, over one denominator, so that vectors of fractions are compared in whole numbers.
-use Rattle.std.specs.Prelude.{◌≡◌, ℕ, zero, suc, ◌*◌, ◌<◌, List, [], ◌∷◌, ℤ, pos, ◌*ℤ◌, slice_get, Some}
+use Rattle.std.specs.Prelude.{ℕ, zero, suc, ◌*◌, List, [], ◌∷◌, ℤ, pos, ◌*ℤ◌}
 use Rattle.ofit_num.specs.Fraction.{Fraction}
 
 -- the vector of value g / scale; places from the count of groups on don't matter, and the scale is at least 1 wherever Obeys or Represents holds
@@ -21,13 +21,3 @@ value_of (f ∷ fs) (suc g) = value_of fs g *ℤ pos f.den
 -- the trial of a list of fractions
 abbrev pub trial_of : List Fraction → Trial
 trial_of fs = record { value = value_of fs; scale = scale_of fs }
-
--- the trial has each fraction of the list at its place
-pub record Represents (fs : List Fraction) (t : Trial) : Type 0 where
-  pub scale : 0 < t.scale
-  pub dens : (g : ℕ) (f : Fraction) → slice_get fs g ≡ Some f → 0 < f.den
-  pub values : (g : ℕ) (f : Fraction) → slice_get fs g ≡ Some f → t.value g *ℤ pos f.den ≡ f.num *ℤ pos t.scale
-
--- two trials have equal values at the places below n
-pub record EqualBelow (n : ℕ) (t u : Trial) : Type 0 where
-  pub values : (g : ℕ) → g < n → t.value g *ℤ pos u.scale ≡ u.value g *ℤ pos t.scale

@@ -1,7 +1,8 @@
-ghost use Rattle.std.specs.Prelude.{◌≡◌, ◌↔◌, ◌+◌, ◌-◌, ◌*◌, ◌≤◌, ◌<◌, ◌^◌, ◌++◌, ◌∷◌, ◌⊎◌, [], ℕ, ℤ, Bool, false, List, length, IsTrue, IfSome, IfNone, IfOk, IsErrOf, OnOk, OnErr, Ok, Err, MatchOption, pos, ◌≤ℤ◌, ◌+ℤ◌, unsigned_abs};
+ghost use Rattle.std.specs.Prelude.{◌≡◌, ◌↔◌, ◌+◌, ◌-◌, ◌≤◌, ◌<◌, ◌^◌, ◌++◌, ◌⊎◌, ℕ, ℤ, Bool, false, List, length, IsTrue, IfSome, IfNone, IfOk, IsErrOf, Ok, Err, pos, ◌≤ℤ◌, unsigned_abs};
 ghost use Rattle.std.specs.List.{AllByRecursion};
 ghost use Rattle.ofit_num.specs.NumberText.{IsDigit, spelled_after};
-ghost use Rattle.ofit_num.specs.DecimalText.{IsSpaces, IsSign, IsPower, IsEnd, IsUnsigned, IsPoint, IsDecimal, IsScaled, IsUnits, IsNumber, IsFixed, UnitsRead, Stops, with_sign};
+ghost use Rattle.ofit_num.specs.DecimalText.{IsSpaces, IsSign, IsPower, IsEnd, IsUnsigned, IsPoint, IsDecimal, IsScaled, IsUnits, IsNumber, IsFixed, UnitsRead, with_sign};
+ghost use Rattle.ofit_num.specs.Digits.{Stops};
 
 mod append;
 mod digits;
@@ -203,7 +204,9 @@ fn signed(negative: bool, size: u64) -> i64
     }
 }
 
-/// The number of units of 10^(-places) that a decimal of any form spells.
+/// The number of units of 10^(-places) that a decimal of any form spells. A call of its own, so that a
+/// plain decimal pays nothing for it.
+#[inline(never)]
 fn units_by_parts(text: &[u8], places: u32, limit: i64) -> Result<i64, NumFault>
     requires places { places ≤ 6 }
     requires limit { pos 0 ≤ℤ limit }

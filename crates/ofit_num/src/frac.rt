@@ -1,6 +1,7 @@
-ghost use Rattle.std.specs.Prelude.{◌≡◌, ◌≤◌, ◌^◌, pos, ◌*ℤ◌};
+ghost use Rattle.std.specs.Prelude.{◌≡◌, ◌≤◌, ◌^◌, pos, ◌*ℤ◌, All};
 ghost use Rattle.std.specs.Int.RustNames.{unsigned_abs};
-ghost use Rattle.ofit_num.specs.Reduced.{signed_as};
+ghost use Rattle.ofit_num.specs.Fraction.{IsLowest};
+ghost use Rattle.ofit_num.specs.Signed.{signed_as};
 
 use crate::divisor::divisor_of;
 use crate::limits::{MOST_DEN, MOST_NUM};
@@ -104,5 +105,14 @@ impl Frac {
         ensures { result ≡ int_cmp (self.now.num *ℤ pos other.now.den) (other.now.num *ℤ pos self.now.den) }
     {
         scaled(self.num, other.den).cmp(&scaled(other.num, self.den))
+    }
+}
+
+/// Tells that each value is in lowest terms, as every [`Frac`] is. Time linear in their count.
+pub fn are_lowest(values: &[Frac])
+    ensures { All IsLowest values.now }
+{
+    for value in values {
+        let _den = value.den();
     }
 }

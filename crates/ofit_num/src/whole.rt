@@ -1,4 +1,4 @@
-ghost use Rattle.std.specs.Prelude.{◌≡◌, ◌↔◌, ◌+◌, ◌-◌, ◌*◌, ◌≤◌, ◌<◌, ◌^◌, ℕ, ℤ, All, IsTrue, MatchOption, IfOk, IsErrOf, Ok, Err, List, decimal, false, true, negsuc, pos, unsigned_abs};
+ghost use Rattle.std.specs.Prelude.{◌≡◌, ◌↔◌, ◌+◌, ◌-◌, ◌*◌, ◌≤◌, ◌<◌, ◌^◌, ℕ, ℤ, All, IsTrue, MatchOption, IfOk, IsErrOf, Ok, Err, decimal, false, true, unsigned_abs};
 ghost use Rattle.std.specs.Fmt.{signed_decimal};
 ghost use Rattle.ofit_num.specs.NumberText.{IsDigit, IsWhole, IsSigned, spelled_after};
 

@@ -3,7 +3,8 @@ use Rattle.std.proofs.Common.{◌≡◌, ℕ, ◌≤◌, ◌⊎◌, inl, inr, Bo
 use Rattle.std.specs.List.{Contains, All, count_by, sum_by}
 use Rattle.std.proofs.lemmas.List.Elements.{All-contains}
 use Rattle.std.proofs.lemmas.List.Sums.{length-filter, sum_by-cons}
-use Rattle.ofit_order.specs.Relation.{Relation, AreWithin}
+use Rattle.ofit_order.specs.Relation.{Relation}
+use Rattle.ofit_order.specs.Within.{AreWithin}
 use Rattle.ofit_order.specs.Connection.{LeadsUp, Joins, AreConnected}
 use Rattle.ofit_order.specs.Component.{AreMembers}
 use Rattle.ofit_order.specs.Form.{pairs_among, higher_count, lower_count, HasOneFewer, RisesOnce, FallsOnce, FitsForm}

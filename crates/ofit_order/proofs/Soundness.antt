@@ -2,7 +2,8 @@
 use Rattle.std.proofs.Common.{◌≡◌, ℕ, ◌<◌, ◌^◌, List, length, get_or, slice_index, subst, arith}
 use Rattle.std.specs.List.{Contains}
 use Rattle.std.proofs.lemmas.List.Elements.{All-contains, Contains-get_or}
-use Rattle.ofit_order.specs.Relation.{Relation, AreWithin, AreInOrder}
+use Rattle.ofit_order.specs.Relation.{Relation, AreInOrder}
+use Rattle.ofit_order.specs.Within.{AreWithin}
 use Rattle.ofit_order.specs.Connection.{Joins, AreConnected, IsReached}
 use Rattle.ofit_order.specs.Component.{AreLeastPlaces, LiesIn}
 use Rattle.ofit_order.specs.Form.{higher_count, lower_count}

@@ -4,9 +4,11 @@ use Rattle.std.specs.List.{Contains, All, sum_by}
 use Rattle.std.specs.List.Sorted.{IsStrictlyIncreasing}
 use Rattle.std.proofs.lemmas.Bool.{cases_order}
 use Rattle.std.proofs.lemmas.List.Elements.{All-head, All-tail, All-contains, Contains-get_or}
-use Rattle.ofit_order.specs.Relation.{Relation, AreWithin, AreInOrder, ComesBefore}
+use Rattle.ofit_order.specs.Relation.{Relation, AreInOrder, ComesBefore}
+use Rattle.ofit_order.specs.Within.{AreWithin}
 use Rattle.ofit_order.specs.Connection.{Joins, IsWalkBy, AreConnected}
-use Rattle.ofit_order.specs.Component.{HasComponent, AreMembers}
+use Rattle.ofit_order.specs.Component.{AreMembers}
+use Rattle.ofit_order.specs.Numbers.{HasComponent}
 use Rattle.ofit_order.specs.declared.form.Form.TheVariants.{General}
 use Rattle.ofit_order.specs.Form.{higher_count, HasOneFewer, RisesOnce, HasForm}
 use Rattle.std.proofs.lemmas.Bool.Decides.{eqb_tells}

@@ -2,9 +2,11 @@
 use Rattle.std.proofs.Common.{◌≡◌, ℕ, ◌<◌, ◌↔◌, inl, inr, List, length, slice_index, subst, ap, arith}
 use Rattle.std.specs.List.{Contains}
 use Rattle.std.proofs.lemmas.List.Elements.{All-contains, Contains-get_or}
-use Rattle.ofit_order.specs.Relation.{Relation, AreWithin}
+use Rattle.ofit_order.specs.Relation.{Relation}
+use Rattle.ofit_order.specs.Within.{AreWithin}
 use Rattle.ofit_order.specs.Connection.{Joins, AreConnected}
-use Rattle.ofit_order.specs.Component.{AreLeastPlaces, LiesIn, AreMembers, HasComponent, IsComponentOf}
+use Rattle.ofit_order.specs.Component.{AreLeastPlaces, LiesIn, AreMembers, IsComponentOf}
+use Rattle.ofit_order.specs.Numbers.{HasComponent}
 use Rattle.ofit_order.proofs.Walks.{IsReached-refl, IsReached-cons, IsReached-back, IsReached-trans}
 use Rattle.ofit_order.proofs.Increasing.{increasing_same, increasing_at}
 

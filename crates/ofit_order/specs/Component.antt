@@ -25,10 +25,6 @@ pub record LiesIn (order : Relation) (least : List ℕ) (component p : ℕ) : Ty
 abbrev pub IsComponentCount : Relation → ℕ → Type 0
 IsComponentCount order count = (least : List ℕ) × AreLeastPlaces order least × (count ≡ length least)
 
--- there is a component of this number
-abbrev pub HasComponent : Relation → ℕ → Type 0
-HasComponent order component = (count : ℕ) × IsComponentCount order count × (component < count)
-
 -- the component of this number has the place p
 abbrev pub IsComponentOf : Relation → ℕ → ℕ → Type 0
 IsComponentOf order component p = (least : List ℕ) × AreLeastPlaces order least × LiesIn order least component p

@@ -1,6 +1,8 @@
 pub mod Relation
+pub mod Within
 pub mod Connection
 pub mod Component
+pub mod Numbers
 pub mod Form
 pub mod Rows
 pub mod Search

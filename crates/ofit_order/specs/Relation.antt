@@ -1,15 +1,11 @@
 -- Places with pairs between them, as an order is seen.
 use Rattle.std.specs.Prelude.{◌≡◌, ℕ, ◌<◌, ◌⊎◌, List}
-use Rattle.std.specs.List.{All, AllPairs}
+use Rattle.std.specs.List.{AllPairs}
 
 -- the places below a number, and the pairs of a low and a high place
 pub record Relation : Type 0 where
   pub places : ℕ
   pub pairs : List (ℕ × ℕ)
-
--- both ends of each pair are places
-abbrev pub AreWithin : List (ℕ × ℕ) → ℕ → Type 0
-AreWithin pairs places = All (λ p. (p.0 < places) × (p.1 < places)) pairs
 
 -- by low place, and then by high place
 abbrev pub ComesBefore : ℕ × ℕ → ℕ × ℕ → Type 0

@@ -1,6 +1,7 @@
 -- What the parts of an order say of it.
 use Rattle.std.specs.Prelude.{◌≡◌, ℕ, ◌<◌, ◌≤◌, ◌^◌, List, length, slice_index}
-use Rattle.ofit_order.specs.Relation.{Relation, AreWithin, AreInOrder}
+use Rattle.ofit_order.specs.Relation.{Relation, AreInOrder}
+use Rattle.ofit_order.specs.Within.{AreWithin}
 use Rattle.ofit_order.specs.Component.{AreLeastPlaces, LiesIn, AreMembers}
 use Rattle.ofit_order.specs.Form.{higher_count, lower_count}
 use Rattle.ofit_order.specs.Rows.{row}

@@ -1,6 +1,7 @@
 ghost use Rattle.std.specs.Prelude.{◌≡◌, ◌↔◌, ℕ, IfOk};
 ghost use Rattle.std.specs.List.{Contains};
-ghost use Rattle.ofit_order.specs.Relation.{AreWithin, AreInOrder};
+ghost use Rattle.ofit_order.specs.Relation.{AreInOrder};
+ghost use Rattle.ofit_order.specs.Within.{AreWithin};
 
 use crate::degrees::{higher_counts, lower_counts};
 use crate::members::members_of;

@@ -1,6 +1,6 @@
 ghost use Rattle.std.specs.Prelude.{◌≡◌, ◌<◌, ℕ, IfOk, ◌==◌, vec_len, slice_index};
 ghost use Rattle.std.specs.List.{All, count_by};
-ghost use Rattle.ofit_order.specs.Relation.{AreWithin};
+ghost use Rattle.ofit_order.specs.Within.{AreWithin};
 ghost use Rattle.ofit_order.specs.Form.{higher_count, lower_count};
 
 use std::alloc::{AllocError, Global};

@@ -1,5 +1,5 @@
-ghost use Rattle.std.specs.Prelude.{◌≡◌, ◌<◌, ℕ, OnOk, IfOk, [], ◌∷◌, ◌++◌, length, vec_len, slice_set, replicate};
-ghost use Rattle.ofit_order.specs.Relation.{AreWithin};
+ghost use Rattle.std.specs.Prelude.{◌≡◌, ◌<◌, OnOk, IfOk, [], ◌∷◌, ◌++◌, vec_len, slice_set, replicate};
+ghost use Rattle.ofit_order.specs.Within.{AreWithin};
 ghost use Rattle.ofit_order.specs.Rows.{rows_of, row, AreNeighbours};
 
 use std::alloc::{AllocError, Global};

@@ -1,8 +1,10 @@
 ghost use Rattle.std.specs.Prelude.{◌≡◌, ◌<◌, ◌^◌, ◌↔◌, ℕ, List};
 ghost use Rattle.std.specs.List.{Contains};
-ghost use Rattle.ofit_order.specs.Relation.{AreInOrder, AreWithin};
+ghost use Rattle.ofit_order.specs.Relation.{AreInOrder};
+ghost use Rattle.ofit_order.specs.Within.{AreWithin};
 ghost use Rattle.ofit_order.specs.Connection.{LeadsUp, AreConnected};
-ghost use Rattle.ofit_order.specs.Component.{IsComponentCount, HasComponent, IsComponentOf, AreMembers};
+ghost use Rattle.ofit_order.specs.Component.{IsComponentCount, IsComponentOf, AreMembers};
+ghost use Rattle.ofit_order.specs.Numbers.{HasComponent};
 ghost use Rattle.ofit_order.specs.Form.{HasForm};
 ghost use Rattle.ofit_order.specs.Shape.{HasShape};
 

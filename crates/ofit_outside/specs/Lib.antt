@@ -1,4 +1,5 @@
 pub mod Faults
+pub mod Counting
 pub mod Folder
 pub mod MemFolder
 pub mod MemSink

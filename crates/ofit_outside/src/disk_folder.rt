@@ -1,5 +1,5 @@
 ghost use Rattle.std.specs.Prelude.{◌≡◌, ◌≤◌, None};
-ghost use Rattle.ofit_outside.specs.Faults.{risen};
+ghost use Rattle.ofit_outside.specs.Counting.{risen};
 
 use crate::reading::{ReadFault, read_whole};
 use crate::{FetchFault, Folder};

@@ -1,6 +1,6 @@
-ghost use Rattle.std.specs.Prelude.{◌≡◌, Some, ◌+◌, ◌^◌, ◌<◌, ◌≤◌, ◌↔◌, [], length, Contains, IfOk, OnOk, OnErr, IsErrOf, IsSomeAnd};
+ghost use Rattle.std.specs.Prelude.{◌≡◌, Some, ◌+◌, ◌^◌, ◌<◌, ◌≤◌, ◌↔◌, length, Contains, IfOk, OnOk, OnErr, IsErrOf, IsSomeAnd};
 ghost use Rattle.std.specs.FinMap.{get, insert, empty};
-ghost use Rattle.ofit_outside.specs.Faults.{risen};
+ghost use Rattle.ofit_outside.specs.Counting.{risen};
 ghost use Rattle.ofit_outside.specs.Folder.{CountsFetch};
 
 use crate::schedule::Schedule;

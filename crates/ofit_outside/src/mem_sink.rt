@@ -1,5 +1,5 @@
 ghost use Rattle.std.specs.Prelude.{◌≡◌, Some, ◌+◌, ◌^◌, ◌/◌, ◌<◌, ◌≤◌, ◌↔◌, ◌⊎◌, [], ◌++◌, length, take, Contains, IfOk, OnOk, OnErr, IsErr};
-ghost use Rattle.ofit_outside.specs.Faults.{risen, Rose};
+ghost use Rattle.ofit_outside.specs.Counting.{risen};
 ghost use Rattle.ofit_outside.specs.Sink.{GainsPrefix};
 ghost use Rattle.ofit_outside.specs.MemSink.{PassesRoom};
 

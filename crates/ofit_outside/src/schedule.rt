@@ -1,6 +1,6 @@
 // Which calls are to fail, by their numbers from 1.
 ghost use Rattle.std.specs.Prelude.{◌≡◌, ℕ, ◌+◌, ◌^◌, ◌<◌, ◌↔◌, slice_index, IsTrue, IfOk, Contains};
-ghost use Rattle.ofit_outside.specs.Faults.{risen};
+ghost use Rattle.ofit_outside.specs.Counting.{risen};
 
 use std::alloc::{AllocError, Global};
 

@@ -1,6 +1,6 @@
 ghost use Rattle.std.specs.Prelude.{◌≡◌, ◌^◌, ◌<◌, ◌≤◌, None, OnOk, OnErr};
 ghost use Rattle.std.specs.Io.KnownBytes.{Appends};
-ghost use Rattle.ofit_outside.specs.Faults.{risen};
+ghost use Rattle.ofit_outside.specs.Counting.{risen};
 ghost use Rattle.ofit_outside.specs.Streams.{AppendsPrefix};
 
 use crate::writing::{flush_whole, write_whole};

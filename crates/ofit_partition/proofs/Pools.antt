@@ -9,11 +9,13 @@ use Rattle.std.specs.Prelude.{ℤ, pos, ◌+ℤ◌, ◌≤ℤ◌, All, Any, slic
 use Rattle.std.specs.List.{AllPairs, flat_map}
 use Rattle.ofit_num.specs.declared.row.Row.{Row}
 use Rattle.ofit_num.specs.Groups.{RowLists}
-use Rattle.ofit_num.specs.Problem.{Problem, no_bounds}
+use Rattle.ofit_num.specs.Problem.{Problem}
+use Rattle.ofit_num.specs.Unbounded.{no_bounds}
 use Rattle.ofit_num.specs.Meaning.{Meaning}
 use Rattle.ofit_num.specs.Fraction.{Fraction}
 use Rattle.ofit_num.specs.Law.{least_at, greatest_at}
-use Rattle.ofit_num.specs.Limits.{IsRowWithinLimits, total_weight, all_rows}
+use Rattle.ofit_num.specs.Limits.{total_weight, all_rows}
+use Rattle.ofit_num.specs.RowLimits.{IsRowWithinLimits}
 use Rattle.ofit_num.specs.Sets.{set_sum}
 use Rattle.ofit_num.proofs.RowLists.{all_rows-take_more, group_at}
 use Rattle.ofit_num.proofs.Lists.{All-slice_get}

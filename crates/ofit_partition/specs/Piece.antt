@@ -7,7 +7,8 @@ use Rattle.ofit_num.specs.declared.row.Row.{Row}
 use Rattle.ofit_num.specs.Sets.{IsSmallest}
 use Rattle.ofit_num.specs.Level.{IsLargest}
 use Rattle.ofit_num.specs.Groups.{RowLists}
-use Rattle.ofit_num.specs.Problem.{Problem, problem_of, no_bounds}
+use Rattle.ofit_num.specs.Problem.{Problem, problem_of}
+use Rattle.ofit_num.specs.Unbounded.{no_bounds}
 use Rattle.ofit_partition.specs.declared.piece.Piece.{Piece}
 use Rattle.ofit_partition.specs.declared.piece.Parts.{Parts}
 

@@ -1,4 +1,4 @@
-ghost use Rattle.std.specs.Prelude.{◌≡◌, ◌<◌, ◌≤◌, ◌+◌, ◌-◌, ◌^◌, All, Any, IfOk, length, vec_len, slice_get, Some, None, false};
+ghost use Rattle.std.specs.Prelude.{◌≡◌, ◌<◌, ◌≤◌, ◌+◌, ◌-◌, ◌^◌, All, Any, IfOk, length, vec_len, Some, None, false};
 ghost use Rattle.ofit_num.specs.declared.limits.TheConstants.{MOST_GROUPS, MOST_PAIRS};
 ghost use Rattle.ofit_num.specs.Limits.{all_rows};
 ghost use Rattle.ofit_num.specs.Trial.{trial_of};

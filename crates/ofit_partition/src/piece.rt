@@ -1,4 +1,4 @@
-ghost use Rattle.std.specs.Prelude.{◌≡◌, ◌<◌, ◌^◌, All, IfOk, length, not, ◌&&◌, slice_index};
+ghost use Rattle.std.specs.Prelude.{◌≡◌, ◌<◌, ◌^◌, All, IfOk, length, not, ◌&&◌};
 ghost use Rattle.std.specs.List.{AllPairs, filter, range_with_len};
 ghost use Rattle.ofit_partition.specs.Piece.{is_marked, IsInside, AreNumbered, AreParts};
 

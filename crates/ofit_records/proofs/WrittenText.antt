@@ -11,7 +11,8 @@ use Rattle.csv.specs.Machine.{next_record}
 use Rattle.csv.specs.declared.parser.State.TheVariants as st
 use Rattle.csv.proofs.RoundTrip.{read-write}
 use Rattle.ofit_records.specs.Records.{records_of, without_marks}
-use Rattle.ofit_records.specs.Written.{record_text, records_text, writer_settings}
+use Rattle.ofit_records.specs.Written.{record_text, records_text}
+use Rattle.ofit_records.specs.Writing.{writer_settings}
 
 same_escaped : (field : List ℕ) → escaped writer_settings field ≡ escaped default_writer field
 unfolding escaped

@@ -1,3 +1,4 @@
 pub mod Records
 pub mod Coming
 pub mod Written
+pub mod Writing

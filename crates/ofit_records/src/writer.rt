@@ -1,5 +1,6 @@
 ghost use Rattle.std.specs.Prelude.{◌≡◌, ◌++◌, [], IfOk, OnOk, IsTrue, map};
-ghost use Rattle.ofit_records.specs.Written.{record_text, text_given, IsBetweenRecords};
+ghost use Rattle.ofit_records.specs.Written.{record_text};
+ghost use Rattle.ofit_records.specs.Writing.{text_given, IsBetweenRecords};
 
 use csv::{Writer, WriterBuilder};
 use std::alloc::{AllocError, Global};
@@ -16,7 +17,7 @@ pub struct RecordWriter {
 
 impl Model for RecordWriter {
     ghost use Rattle.std.specs.Prelude.{◌≡◌, ℕ, List, false, box_value};
-    ghost use Rattle.ofit_records.specs.Written.{text_unless, IsBetweenRecords};
+    ghost use Rattle.ofit_records.specs.Writing.{text_unless, IsBetweenRecords};
 
     ghost Value = { List ℕ };
 

@@ -9,7 +9,7 @@ use Rattle.ofit_num.specs.Loss.{Factors, factor_of, residual, squares}
 use Rattle.ofit_num.proofs.Gap.{is_gap, pos-gap, gap-mul, gap-add, gap-sub, gap-same, square-nonneg}
 use Rattle.std.proofs.Math.Nat.{pow-succ'}
 use Rattle.ofit_num.specs.Fraction.{Fraction}
-use Rattle.ofit_num.specs.Limits.{AreWithinLimits}
+use Rattle.ofit_num.specs.RowLimits.{AreWithinLimits}
 use Rattle.ofit_num.specs.Reduced.{Reduces}
 use Rattle.ofit_num.proofs.Order.{zero_mul_ℤ, assoc_swap, cancel_ℤ, cancel_le_ℤ, mul_pos, pow_above}
 use Rattle.ofit_num.proofs.TableScaling.{first_power}

@@ -12,3 +12,4 @@ pub mod Ready
 pub mod Reported
 pub mod Listed
 pub mod Once
+pub mod StudyReport

@@ -21,7 +21,7 @@ use Rattle.ofit_num.specs.Trial.{trial_of, scale_of, value_of}
 use Rattle.ofit_num.proofs.Order.{cancel_ℤ, assoc_swap, swap_ℤ}
 use Rattle.ofit_num.proofs.RowSums.{int_row_sum-append}
 use Rattle.ofit_num.proofs.TableSettled.{squares_best_settled}
-use Rattle.ofit_order.specs.Relation.{AreWithin}
+use Rattle.ofit_order.specs.Within.{AreWithin}
 use Rattle.ofit_order.specs.Component.{AreMembers}
 use Rattle.ofit_order.proofs.DoubleCounting.{has, Contains-from_has, has-from_Contains}
 use Rattle.ofit_order.proofs.Forming.{member_inside}

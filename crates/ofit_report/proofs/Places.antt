@@ -4,7 +4,8 @@ use Rattle.std.proofs.lemmas.List.{get_or_append_left, get_or-append_right}
 use Rattle.std.proofs.lemmas.List.Elements.{All-filter}
 use Rattle.std.specs.Prelude.{Contains, ◌↔◌}
 use Rattle.ofit_num.specs.Fraction.{Fraction}
-use Rattle.ofit_order.specs.Relation.{Relation, AreWithin}
+use Rattle.ofit_order.specs.Relation.{Relation}
+use Rattle.ofit_order.specs.Within.{AreWithin}
 use Rattle.ofit_study.specs.Study.{Study, IsValid, names_of, groups_of, places_of}
 use Rattle.ofit_study.proofs.Places.{group_count}
 use Rattle.ofit_study.proofs.Stating.{pairs_have_places}

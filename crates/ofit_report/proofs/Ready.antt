@@ -5,9 +5,10 @@ use Rattle.std.proofs.lemmas.Option.{slice_get-get_or}
 use Rattle.std.specs.List.{Contains}
 use Rattle.std.specs.Prelude.{pos, Option, unwrap_or}
 use Rattle.ofit_num.specs.Fraction.{Fraction}
-use Rattle.ofit_num.specs.Limits.{AreWithinLimits}
+use Rattle.ofit_num.specs.RowLimits.{AreWithinLimits}
 use Rattle.ofit_order.specs.Relation.{Relation}
-use Rattle.ofit_order.specs.Component.{HasComponent, AreMembers}
+use Rattle.ofit_order.specs.Component.{AreMembers}
+use Rattle.ofit_order.specs.Numbers.{HasComponent}
 use Rattle.ofit_order.proofs.Forming.{member_inside}
 use Rattle.ofit_order.proofs.Walks.{IsReached-refl}
 use Rattle.ofit_order.specs.Connection.{Joins}

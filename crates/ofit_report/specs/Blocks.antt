@@ -1,5 +1,5 @@
 -- Blocks: the largest sets of groups that pairs between groups of equal value join, numbered from 1 by their first groups.
-use Rattle.std.specs.Prelude.{◌≡◌, ◌+◌, ◌<◌, ℕ, List, length, slice_index}
+use Rattle.std.specs.Prelude.{◌≡◌, ◌+◌, ℕ, List, length}
 use Rattle.ofit_num.specs.Fraction.{Fraction}
 use Rattle.ofit_order.specs.Relation.{Relation}
 use Rattle.ofit_order.specs.Component.{IsComponentOf}
@@ -17,8 +17,3 @@ block_order s values = record { places = length (names_of s); pairs = tight_amon
 -- the block of this number has the group at the place
 abbrev pub IsBlockOf : Study → List Fraction → ℕ → ℕ → Type 0
 IsBlockOf s values block g = (k : ℕ) × (block ≡ k + 1) × IsComponentOf (block_order s values) k g
-
--- each group's block
-pub record AreBlocks (s : Study) (values : List Fraction) (blocks : List ℕ) : Type 0 where
-  pub count : length blocks ≡ length (names_of s)
-  pub each : (g : ℕ) → g < length (names_of s) → IsBlockOf s values (slice_index blocks g) g

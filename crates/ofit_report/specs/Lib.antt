@@ -1,7 +1,9 @@
 pub mod Tight
 pub mod Blocks
+pub mod Numbered
 pub mod Cost
 pub mod RowSums
 pub mod SameOrder
 pub mod BlockMeans
 pub mod ReportText
+pub mod ReportOf

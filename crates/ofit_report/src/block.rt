@@ -1,6 +1,7 @@
-ghost use Rattle.std.specs.Prelude.{◌≡◌, ◌<◌, ◌+◌, ℕ, IfOk, length};
+ghost use Rattle.std.specs.Prelude.{◌≡◌, ◌<◌, ◌+◌, IfOk, length};
 ghost use Rattle.ofit_study.specs.Study.{names_of};
-ghost use Rattle.ofit_report.specs.Blocks.{block_order, IsBlockOf, AreBlocks};
+ghost use Rattle.ofit_report.specs.Blocks.{block_order, IsBlockOf};
+ghost use Rattle.ofit_report.specs.Numbered.{AreBlocks};
 ghost use Rattle.ofit_report.specs.SameOrder.{IsSameOrder};
 
 use ofit_num::Frac;

@@ -1,6 +1,6 @@
 ghost use Rattle.std.specs.Prelude.{◌≡◌, ◌≤◌, ◌<◌, ◌+◌, ◌*◌, ◌^◌, ℤ, MatchBool, length, pos, ◌≤ℤ◌, ◌+ℤ◌, ◌-ℤ◌, ◌*ℤ◌, unsigned_abs};
 ghost use Rattle.ofit_num.specs.declared.limits.TheConstants.{MOST_UNITS, MOST_WEIGHT};
-ghost use Rattle.ofit_num.specs.Limits.{AreWithinLimits};
+ghost use Rattle.ofit_num.specs.RowLimits.{AreWithinLimits};
 ghost use Rattle.ofit_num.specs.Loss.{residual, squares, median};
 ghost use Rattle.ofit_num.specs.Reduced.{Reduces};
 ghost use Rattle.ofit_study.specs.declared.loss.LossKind.TheVariants.{Squares};

@@ -23,5 +23,6 @@ pub fn count_blocks(alloc: Global, study: &Study, values: &[Frac]) -> Result<u32
     ensures { IfOk result (IsComponentCount (block_order study.now values.now)) }
 {
     let order = order_of_blocks(alloc, study, values)?;
-    Ok(order.component_count())
+    let blocks = order.component_count();
+    Ok(blocks)
 }

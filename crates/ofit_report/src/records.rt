@@ -1,6 +1,6 @@
-ghost use Rattle.std.specs.Prelude.{◌≡◌, ◌≤◌, ◌<◌, ◌+◌, ◌^◌, ◌++◌, IfOk, OnOk, ℕ, ℤ, List, length, pos, ◌≤ℤ◌, decimal, unsigned_abs};
-ghost use Rattle.std.specs.Fmt.{signed_decimal};
-ghost use Rattle.ofit_num.specs.Limits.{AreWithinLimits, total_weight};
+ghost use Rattle.std.specs.Prelude.{◌≡◌, ◌≤◌, ◌+◌, ◌++◌, IfOk, OnOk, ℤ, pos, ◌≤ℤ◌, decimal, unsigned_abs};
+ghost use Rattle.ofit_num.specs.declared.limits.TheConstants.{MOST_WEIGHT};
+ghost use Rattle.ofit_num.specs.Limits.{total_weight};
 ghost use Rattle.ofit_records.specs.Written.{record_text};
 ghost use Rattle.ofit_report.specs.ReportText.{IsRoundedDown, group_fields, block_fields};
 
@@ -33,7 +33,7 @@ pub(crate) fn write_group(
     value: &Frac,
     decimal: &[u8],
 ) -> Result<(), AllocError>
-    requires { total_weight rows.now ≤ 10 ^ 10 }
+    requires { total_weight rows.now ≤ MOST_WEIGHT }
     ensures { OnOk result (writer.new ≡ writer.old ++ record_text (group_fields name.now rows.now block value.now decimal.now)) }
 {
     let mut count = Buffer::new();
@@ -63,7 +63,7 @@ pub(crate) fn write_block(
     value: &Frac,
     cost: (i128, i128),
 ) -> Result<(), AllocError>
-    requires weight { total_weight rows.now ≤ 10 ^ 10 }
+    requires weight { total_weight rows.now ≤ MOST_WEIGHT }
     requires cost { pos 1 ≤ℤ cost.1 }
     ensures { OnOk result (writer.new ≡ writer.old ++ record_text (block_fields block groups rows.now value.now (record { num = cost.0; den = unsigned_abs cost.1 }))) }
 {

@@ -1,6 +1,7 @@
 ghost use Rattle.std.specs.Prelude.{◌≡◌, ◌<◌, ◌++◌, ℕ, List, IfOk, OnOk, length};
 ghost use Rattle.ofit_num.specs.Fit.{BestValues};
-ghost use Rattle.ofit_order.specs.Component.{IsComponentCount, HasComponent};
+ghost use Rattle.ofit_order.specs.Component.{IsComponentCount};
+ghost use Rattle.ofit_order.specs.Numbers.{HasComponent};
 ghost use Rattle.ofit_records.specs.Written.{record_text, records_text};
 ghost use Rattle.ofit_study.specs.Study.{names_of, problem_stated, meaning_of};
 ghost use Rattle.ofit_report.specs.BlockMeans.{HasBlockMeans};

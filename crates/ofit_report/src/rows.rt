@@ -1,6 +1,7 @@
-ghost use Rattle.std.specs.Prelude.{◌≡◌, ◌≤◌, ◌<◌, ◌+◌, ◌*◌, ◌^◌, ◌++◌, IfOk, OnOk, length, pos, All, ◌+ℤ◌, ◌*ℤ◌, unsigned_abs};
+ghost use Rattle.std.specs.Prelude.{◌≡◌, ◌≤◌, ◌<◌, ◌+◌, ◌*◌, ◌^◌, IfOk, length, pos, All, ◌+ℤ◌, ◌*ℤ◌, unsigned_abs};
 ghost use Rattle.ofit_num.specs.declared.limits.TheConstants.{MOST_UNITS, MOST_WEIGHT};
-ghost use Rattle.ofit_num.specs.Limits.{AreWithinLimits, total_weight};
+ghost use Rattle.ofit_num.specs.Limits.{total_weight};
+ghost use Rattle.ofit_num.specs.RowLimits.{AreWithinLimits};
 ghost use Rattle.ofit_study.specs.Study.{names_of};
 ghost use Rattle.ofit_loss.specs.Squares.{weighted_sum};
 ghost use Rattle.ofit_report.specs.Cost.{rows_among};

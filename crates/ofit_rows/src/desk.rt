@@ -16,7 +16,7 @@ pub(crate) struct Desk {
     pub(crate) room: u64,
     err_room: u64,
     pub(crate) out: Vec<u8>,
-    err: Vec<u8>,
+    pub(crate) err: Vec<u8>,
 }
 
 impl Desk {

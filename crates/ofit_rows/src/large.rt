@@ -42,18 +42,72 @@ fn fit_of(rt: &HostRuntime, table: &[u8], failing_put: u64) -> Result<(String, u
     Ok((told, desk.out.len()))
 }
 
-/// Whether `fit d` of the table is refused.
-fn is_refused(rt: &HostRuntime, table: &[u8]) -> Result<bool, AllocError> {
-    let (told, length) = fit_of(rt, table, 0)?;
-    Ok(told.as_str() == "3 0 0" && length == 0)
+/// Whether the words are refused over the desk's files with this line.
+fn is_refused(
+    rt: &HostRuntime,
+    desk: &mut Desk,
+    line: &str,
+    message: &str,
+) -> Result<bool, AllocError> {
+    let ended = told(rt, desk, line)?;
+    let refused = ended.as_str() == "3 0 0" && desk.out.is_empty();
+    Ok(refused && desk.err.as_slice() == message.as_bytes())
+}
+
+/// Whether `fit d` of the table is refused with this line.
+fn is_table_refused(rt: &HostRuntime, table: &[u8], message: &str) -> Result<bool, AllocError> {
+    let mut desk = Desk::new(rt.alloc(), 0)?;
+    desk.hold("d", table)?;
+    is_refused(rt, &mut desk, "fit d places=0", message)
 }
 
 #[test]
 fn limits_of_rows_groups_and_bytes_are_told(rt: HostRuntime) -> Result<(), Fail> {
-    assert!(rt; is_refused(&rt, many_rows(rt.alloc(), 2_001, 3_000)?.as_slice())?);
-    assert!(rt; is_refused(&rt, many_rows(rt.alloc(), 100_001, 1_999)?.as_slice())?);
+    let groups = many_rows(rt.alloc(), 2_001, 3_000)?;
+    let message = "ofit: data record 2002: too many groups\n";
+    assert!(rt; is_table_refused(&rt, groups.as_slice(), message)?);
+    let rows = many_rows(rt.alloc(), 100_001, 1_999)?;
+    let message = "ofit: data record 100002: too many rows\n";
+    assert!(rt; is_table_refused(&rt, rows.as_slice(), message)?);
     let long = vec![in rt.alloc(); 10u8; 33_554_433]?;
-    assert!(rt; is_refused(&rt, long.as_slice())?);
+    assert!(rt; is_table_refused(&rt, long.as_slice(), "ofit: data: file too long\n")?);
+    Ok(())
+}
+
+/// 300 groups of equal values.
+fn equal_rows(alloc: Global) -> Result<Vec<u8>, AllocError> {
+    let mut table = Vec::from_slice(alloc, b"group,value\n")?;
+    for group in 0u32..300 {
+        let line = format!(in alloc; "g{group},1\n")?;
+        table.extend_from_slice(line.as_bytes())?;
+    }
+    Ok(table)
+}
+
+/// 20,000 pairs of 100 low and 200 high groups.
+fn most_pairs(alloc: Global) -> Result<Vec<u8>, AllocError> {
+    let mut order = Vec::from_slice(alloc, b"low,high\n")?;
+    for low in 0u32..100 {
+        for high in 100u32..300 {
+            let line = format!(in alloc; "g{low},g{high}\n")?;
+            order.extend_from_slice(line.as_bytes())?;
+        }
+    }
+    Ok(order)
+}
+
+#[test]
+fn the_limit_of_pairs_is_told(rt: HostRuntime) -> Result<(), Fail> {
+    let mut desk = Desk::new(rt.alloc(), 0)?;
+    desk.hold("d", equal_rows(rt.alloc())?.as_slice())?;
+    let mut order = most_pairs(rt.alloc())?;
+    desk.hold("o", order.as_slice())?;
+    let line = "report d order=file:o places=0";
+    assert_eq!(rt; told(&rt, &mut desk, line)?.as_str(), "0 1 1");
+    order.extend_from_slice(b"g0,g1\n")?;
+    desk.hold("o", order.as_slice())?;
+    let message = "ofit: order record 20002: too many pairs\n";
+    assert!(rt; is_refused(&rt, &mut desk, line, message)?);
     Ok(())
 }
 
@@ -95,24 +149,38 @@ fn lines_of(alloc: Global, line: &[u8], count: u32) -> Result<Vec<u8>, AllocErro
     Ok(lines)
 }
 
-/// Whether the script is refused.
-fn is_script_refused(rt: &HostRuntime, script: &[u8]) -> Result<bool, AllocError> {
+/// Whether the script is refused with this line.
+fn is_script_refused(rt: &HostRuntime, script: &[u8], message: &str) -> Result<bool, AllocError> {
     let mut desk = Desk::new(rt.alloc(), 0)?;
     desk.hold("d", b"group,value\nA,1\n")?;
     desk.hold("s", script)?;
-    let ended = told(rt, &mut desk, "session d s")?;
-    Ok(ended.as_str() == "3 0 0" && desk.out.is_empty())
+    is_refused(rt, &mut desk, "session d s", message)
+}
+
+/// How a session with the script ends: status, fits and cuts.
+fn session_of(rt: &HostRuntime, script: &[u8]) -> Result<String, AllocError> {
+    let mut desk = Desk::new(rt.alloc(), 0)?;
+    desk.room = 2_000_000;
+    desk.hold("d", b"group,value\nA,1\n")?;
+    desk.hold("s", script)?;
+    told(rt, &mut desk, "session d s")
 }
 
 #[test]
 fn limits_of_scripts_are_told(rt: HostRuntime) -> Result<(), Fail> {
     let alloc = rt.alloc();
-    assert!(rt; !is_script_refused(&rt, lines_of(alloc, b"report\n", 100)?.as_slice())?);
-    assert!(rt; is_script_refused(&rt, lines_of(alloc, b"report\n", 101)?.as_slice())?);
-    assert!(rt; !is_script_refused(&rt, lines_of(alloc, b"remove,9\n", 10_000)?.as_slice())?);
-    assert!(rt; is_script_refused(&rt, lines_of(alloc, b"remove,9\n", 10_001)?.as_slice())?);
+    let reports = lines_of(alloc, b"report\n", 100)?;
+    assert_eq!(rt; session_of(&rt, reports.as_slice())?.as_str(), "0 1 0");
+    let reports = lines_of(alloc, b"report\n", 101)?;
+    let message = "ofit: script record 101: too many reports\n";
+    assert!(rt; is_script_refused(&rt, reports.as_slice(), message)?);
+    let edits = lines_of(alloc, b"remove,9\n", 10_000)?;
+    assert_eq!(rt; session_of(&rt, edits.as_slice())?.as_str(), "0 1 0");
+    let edits = lines_of(alloc, b"remove,9\n", 10_001)?;
+    let message = "ofit: script record 10001: too many lines\n";
+    assert!(rt; is_script_refused(&rt, edits.as_slice(), message)?);
     let long = vec![in alloc; 10u8; 33_554_433]?;
-    assert!(rt; is_script_refused(&rt, long.as_slice())?);
+    assert!(rt; is_script_refused(&rt, long.as_slice(), "ofit: script: file too long\n")?);
     Ok(())
 }
 

@@ -281,7 +281,29 @@ end,-,-,-
 end,-,-,-
 -- run 3 0 0 verify-unimodal d p places=0
 -- err
-ofit: sheet record 9: record after the end"#;
+ofit: sheet record 9: record after the end
+-- case the greatest cost of a peaked sheet, and one that passes it
+-- file d
+group,value
+A,4
+-- file p
+ofit-peaked,1,median,0
+peak,A,1000000000000000000000000000000,-
+value,A,4,-
+rise,1,-,-
+step,A,4,0
+fall,0,-,-
+step,A,4,0
+end,-,-,-
+-- run 1 0 0 verify-unimodal d p places=0
+fails cost
+-- file p
+ofit-peaked,1,median,0
+peak,A,1000000000000000000000000000001,-
+value,A,4,-
+-- run 3 0 0 verify-unimodal d p places=0
+-- err
+ofit: sheet record 2: number too large"#;
 
 #[test]
 fn unknown_peaks_are_fitted(rt: HostRuntime) -> Result<(), Fail> {

@@ -371,7 +371,33 @@ size,3,3,-
 end,-,-,-
 -- run 3 0 0 verify d s places=0
 -- err
-ofit: sheet record 3: bad record"#;
+ofit: sheet record 3: bad record
+-- case the greatest numbers of a sheet, and one that passes them
+-- file d
+group,value,weight
+A,1,1
+B,3,1
+C,2,1
+-- file s
+ofit-sheet,1,squares,0
+bounds,none,none,-
+value,A,1000000000000000000000,1
+value,B,1,1000000000000
+value,C,5,2
+flow,B,C,2000000000000000000000000000000000
+end,-,-,-
+-- run 1 0 0 verify d s places=0
+fails order A B
+-- file s
+ofit-sheet,1,squares,0
+bounds,none,none,-
+value,A,1,1
+value,B,1,1000000000001
+value,C,5,2
+end,-,-,-
+-- run 3 0 0 verify d s places=0
+-- err
+ofit: sheet record 4: number too large"#;
 
 #[test]
 fn sheets_get_their_verdicts(rt: HostRuntime) -> Result<(), Fail> {

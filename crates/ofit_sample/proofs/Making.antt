@@ -7,7 +7,8 @@ use Rattle.std.proofs.lemmas.List.FromFn.{length-map-range_with_len, map-range_w
 use Rattle.std.proofs.lemmas.List.Sums.{sum_by-append, sum_by-cons}
 use Rattle.ofit_study.specs.declared.fault.AddFault.{AddFault}
 use Rattle.ofit_study.specs.declared.fault.AddFault.TheVariants.{TooManyRows, TooHeavy, TooManyGroups, Memory}
-use Rattle.ofit_study.specs.Adding.{HasGroupOrRoom, IsRefused, with_row}
+use Rattle.ofit_study.specs.Adding.{HasGroupOrRoom, IsRefused}
+use Rattle.ofit_study.specs.Added.{with_row}
 use Rattle.ofit_study.specs.Study.{GainsRow, Observation, Study, group_names, names_of, total_weight}
 use Rattle.ofit_study.proofs.GroupNames.{group_names-push_known, group_names-push_new}
 use Rattle.ofit_table.specs.Numbered.{AreNumbered}

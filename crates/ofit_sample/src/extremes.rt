@@ -4,15 +4,6 @@ ghost use Rattle.ofit_sample.specs.SampleText.{IsLeastOf, IsGreatestOf};
 
 use ofit_num::Frac;
 
-/// Tells that each value is in lowest terms, as every `Frac` is.
-pub(crate) fn are_lowest(values: &[Frac])
-    ensures { All IsLowest values.now }
-{
-    for value in values {
-        let _below = value.den();
-    }
-}
-
 /// The least of some values.
 pub(crate) fn least_of(values: &[Frac]) -> Frac
     requires some { values.now ≢ [] }

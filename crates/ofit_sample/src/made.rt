@@ -1,5 +1,5 @@
 ghost use Rattle.std.specs.Prelude.{◌≡◌, IfOk};
-ghost use Rattle.ofit_words.specs.Words.{IsJobInLimits};
+ghost use Rattle.ofit_words.specs.JobLimits.{IsJobInLimits};
 ghost use Rattle.ofit_words.specs.declared.job.Job.TheVariants.{Sample};
 ghost use Rattle.ofit_sample.specs.Made.{made_settings, IsMade};
 

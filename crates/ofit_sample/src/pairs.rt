@@ -1,7 +1,7 @@
 ghost use Rattle.std.specs.Prelude.{◌≡◌, ◌≤◌, ◌-◌, ℕ, IfOk, Ok};
 ghost use Rattle.ofit_study.specs.Study.{names_of};
 ghost use Rattle.ofit_table.specs.PatternRead.{PatternRead};
-ghost use Rattle.ofit_words.specs.Words.{IsJobInLimits};
+ghost use Rattle.ofit_words.specs.JobLimits.{IsJobInLimits};
 ghost use Rattle.ofit_words.specs.declared.job.Job.TheVariants.{Sample};
 ghost use Rattle.ofit_sample.specs.Generator.{number_after};
 ghost use Rattle.ofit_sample.specs.Made.{all_drawn, later_draws, made_rows, IsMade};

@@ -1,5 +1,5 @@
 ghost use Rattle.std.specs.Prelude.{◌≡◌, ◌+◌, ℕ, length, OnOk};
-ghost use Rattle.ofit_study.specs.Adding.{with_row};
+ghost use Rattle.ofit_study.specs.Added.{with_row};
 ghost use Rattle.ofit_sample.specs.Generator.{number_after};
 ghost use Rattle.ofit_sample.specs.Made.{row_drawn};
 ghost use Rattle.ofit_sample.specs.Making.{HasRoom};

@@ -1,5 +1,5 @@
 ghost use Rattle.std.specs.Prelude.{◌-◌, [], OnOk};
-ghost use Rattle.ofit_words.specs.Words.{IsJobInLimits};
+ghost use Rattle.ofit_words.specs.JobLimits.{IsJobInLimits};
 ghost use Rattle.ofit_words.specs.declared.job.Job.TheVariants.{Sample};
 ghost use Rattle.ofit_sample.specs.Made.{first_rows, later_draws, made_rows};
 ghost use Rattle.ofit_sample.specs.Making.{IsUnderway};

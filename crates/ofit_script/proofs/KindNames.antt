@@ -1,14 +1,11 @@
 -- Each kind of line has a name of its own.
-use Rattle.std.proofs.Common.{◌≡◌, ℕ, ◌+◌, List, [], ◌∷◌, Some, refl, sym, ap, ◌∙◌}
+use Rattle.std.proofs.Common.{◌≡◌, ℕ, ◌+◌, List, [], ◌∷◌, Some, refl, cond}
 use Rattle.std.proofs.Math.Dec.{eqb}
-use Rattle.std.specs.Prelude.{Bool, true, false, slice_get}
+use Rattle.std.specs.Prelude.{slice_get}
+use Rattle.ofit_num.proofs.Names.{own_name}
 use Rattle.ofit_script.specs.declared.kind.Kind.{Kind}
 use Rattle.ofit_script.specs.declared.kind.Kind.TheVariants.{Add, Remove, Value, Weight, Relate, Unrelate, Report, Sheet}
 use Rattle.ofit_script.specs.Kinds.{kind_name, IsOfKind}
-
-abbrev pick : Bool → Kind → Kind → Kind
-pick true c d = c
-pick false c d = d
 
 -- no two names have one sum of their bytes
 abbrev mark : List ℕ → ℕ
@@ -16,7 +13,7 @@ mark [] = 0
 mark (b ∷ bs) = b + mark bs
 
 abbrev marked : ℕ → Kind
-marked n = pick (eqb n 297) Add (pick (eqb n 654) Remove (pick (eqb n 541) Value (pick (eqb n 648) Weight (pick (eqb n 637) Relate (pick (eqb n 864) Unrelate (pick (eqb n 668) Report Sheet))))))
+marked n = cond (eqb n 297) Add (cond (eqb n 654) Remove (cond (eqb n 541) Value (cond (eqb n 648) Weight (cond (eqb n 637) Relate (cond (eqb n 864) Unrelate (cond (eqb n 668) Report Sheet))))))
 
 back : (k : Kind) → marked (mark (kind_name k)) ≡ k
 back Add = refl
@@ -29,7 +26,7 @@ back Report = refl
 back Sheet = refl
 
 one_name : (k j : Kind) → kind_name k ≡ kind_name j → k ≡ j
-one_name k j e = sym (back k) ∙ ap (λ (t : List ℕ). marked (mark t)) e ∙ back j
+one_name = own_name kind_name (λ (t : List ℕ). marked (mark t)) back
 
 same_field : (fields : List (List ℕ)) (a b : List ℕ) → slice_get fields 0 ≡ Some a → slice_get fields 0 ≡ Some b → a ≡ b
 same_field fields a b h k = cc

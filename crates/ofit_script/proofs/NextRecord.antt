@@ -11,7 +11,8 @@ use Rattle.ofit_script.specs.declared.fault.ScriptFault.TheVariants.{Memory}
 use Rattle.ofit_script.specs.declared.kind.Kind.{Kind}
 use Rattle.ofit_script.specs.declared.line.Line.{Line}
 use Rattle.ofit_script.specs.Kinds.{IsOfKind, kind_name, prints}
-use Rattle.ofit_script.specs.Lines.{IsLineInLimits, IsScript, is_print, most_prints, print_count}
+use Rattle.ofit_script.specs.Lines.{is_print, most_prints, print_count}
+use Rattle.ofit_script.specs.Script.{IsLineInLimits, IsScript}
 use Rattle.ofit_script.specs.Spelling.{IsShaped, RecordFault, Spells, bad_field}
 use Rattle.ofit_script.specs.ScriptRead.{AreLines, HasFault}
 use Rattle.ofit_script.specs.Reading.{FieldsRead, HasRoom, IsReadSoFar, SpellsOfKind}

@@ -4,18 +4,15 @@ use Rattle.std.specs.Prelude.{Contains}
 use Rattle.ofit_fit.proofs.Fitted.{one_count}
 use Rattle.ofit_fit.proofs.OneOrder.{one_order}
 use Rattle.ofit_num.proofs.Members.{cons_first, Contains-cons}
-use Rattle.ofit_num.proofs.Unique.{unique_least_best}
-use Rattle.ofit_num.specs.Fraction.{Fraction}
 use Rattle.ofit_num.specs.Tally.{Counts}
 use Rattle.ofit_order.proofs.Increasing.{increasing_same}
 use Rattle.ofit_order.specs.Relation.{Relation}
-use Rattle.ofit_report.proofs.Once.{one_report}
-use Rattle.ofit_report.specs.ReportText.{ReportText}
+use Rattle.ofit_report.proofs.StudyReport.{one_study_report}
 use Rattle.ofit_study.specs.declared.edit.Edit.{Edit}
 use Rattle.ofit_study.specs.declared.fault.EditFault.{EditFault}
 use Rattle.ofit_study.specs.Counted.{HasComponentCount}
 use Rattle.ofit_study.specs.Edited.{touched}
-use Rattle.ofit_study.specs.Study.{Study, meaning_of, problem_stated}
+use Rattle.ofit_study.specs.Study.{Study, problem_stated}
 use Rattle.ofit_session.specs.Refit.{AreHolding, IsRefit}
 use Rattle.ofit_script.specs.declared.line.Line.{Line}
 use Rattle.ofit_script.specs.declared.line.Line.TheVariants.{Change, Report, Sheet}
@@ -57,10 +54,7 @@ taken_text r s rising edit a b t u n m h k =
     h.printed ∙ ap₂ (λ (i j : ℕ). refitted_text r i j) fits components ∙ sym k.printed
 
 reported_text : (r : ℕ) (s a b : Study) (t u : List ℕ) (n m : ℕ) → PrintsReport r s a t n → PrintsReport r s b u m → t ≡ u
-reported_text r s a b t u n m h k =
-    let values : k.values ≡ h.values = unique_least_best (meaning_of s.settings.loss) (problem_stated s) k.values h.values k.lowest h.lowest k.least_best h.least_best in
-    let report : h.report ≡ k.report = one_report s h.values h.lowest h.report k.report h.told (subst (λ (fs : List Fraction). ReportText s fs k.report) values k.told) in
-    h.printed ∙ ap (report_text r) report ∙ sym k.printed
+reported_text r s a b t u n m h k = h.printed ∙ ap (report_text r) (one_study_report s h.report k.report h.is_report k.is_report) ∙ sym k.printed
 
 line_text : (r : ℕ) (s : Study) → AreRising s.rows → (line : Line) (a b : Study) (t u : List ℕ) (n m : ℕ) → (line ≡ Sheet → ⊥) → LineGives r s line a t n → LineGives r s line b u m → t ≡ u
 line_text r s rising (Change edit) a b t u n m other (inl h) (inl k) = taken_text r s rising edit a b t u n m h k

@@ -1,12 +1,7 @@
 -- An edit of a study has one outcome.
-use Rattle.std.proofs.Common.{◌≡◌, ◌≢◌, ◌∙◌, ◌⊎◌, ◌+◌, ◌<◌, ◌≤◌, ◌++◌, ℕ, List, [], ◌∷◌, Ok, Err, Ordering, inl, inr, refl, sym, ap, subst, arith, length}
+use Rattle.std.proofs.Common.{◌≡◌, ◌≢◌, ◌∙◌, ◌⊎◌, ◌+◌, ◌<◌, ◌≤◌, ◌++◌, ℕ, List, [], ◌∷◌, Ok, Err, inl, inr, refl, sym, ap, subst, arith, length}
 use Rattle.std.specs.Prelude.{Contains}
-use Rattle.std.specs.declared.cmp.Ordering.TheVariants.{Less, Equal, Greater}
-use Rattle.std.specs.Cmp.Lexicographic.{slice_cmp}
-use Rattle.std.specs.Ordering.{nat_cmp, ordering_reverse}
-use Rattle.std.proofs.lemmas.Cmp.{nat_list_cmp_total}
 use Rattle.std.proofs.lemmas.List.Elements.{All-contains}
-use Rattle.ofit_num.proofs.Members.{sorted_one}
 use Rattle.ofit_num.specs.declared.limits.TheConstants.{MOST_WEIGHT}
 use Rattle.ofit_study.specs.declared.edit.Edit.{Edit}
 use Rattle.ofit_study.specs.declared.edit.Edit.TheVariants.{Add, Remove, Value, Weight, Relate, Unrelate}
@@ -15,35 +10,13 @@ use Rattle.ofit_study.specs.declared.fault.EditFault.{EditFault}
 use Rattle.ofit_study.specs.declared.fault.EditFault.TheVariants.{TooManyRows, TooHeavy, TooManyGroups, NoRow, GroupInUse, NoGroup, PairPresent, PairAbsent, TooManyPairs}
 use Rattle.ofit_study.specs.Adding.{HasGroupOrRoom, IsTaken}
 use Rattle.ofit_study.specs.Edited.{Edited, HasJustPairs, HasRow, IsAccepted, IsAfter, IsInUse, IsRefusal, IsUnknown, weight_with, with_rows, with_value, with_weight}
-use Rattle.ofit_study.specs.Study.{ComesBefore, IsBefore, Observation, Study, most_groups, most_pairs, most_rows, names_of, total_weight}
+use Rattle.ofit_study.specs.Study.{Observation, Study, most_groups, most_pairs, most_rows, names_of, total_weight}
+use Rattle.ofit_study.proofs.PairOrder.{ordered_one}
 use Rattle.ofit_script.proofs.RowParts.{AreRising, gain_one, row_one}
-
--- pairs in their order are known by which they are
-
-never_less : (o : Ordering) → o ≡ ordering_reverse o → o ≡ Less → ⊥
-never_less Less e l = absurd cc
-never_less Equal e l = absurd cc
-never_less Greater e l = absurd cc
-
-never_text : (a : List ℕ) → IsBefore a a → ⊥
-never_text a h = never_less (slice_cmp nat_cmp a a) (nat_list_cmp_total.antisymm a a) h
-
-over_text : (a b c : List ℕ) → IsBefore a b → IsBefore b c → IsBefore a c
-over_text a b c h k = nat_list_cmp_total.trans a b c h k
-
-never : (e : List ℕ × List ℕ) → ComesBefore e e → ⊥
-never e (inl h) = never_text e.0 h
-never e (inr h) = never_text e.1 h.1
-
-over : (e f g : List ℕ × List ℕ) → ComesBefore e f → ComesBefore f g → ComesBefore e g
-over e f g (inl h) (inl k) = inl (over_text e.0 f.0 g.0 h k)
-over e f g (inl h) (inr k) = inl (subst (λ (t : List ℕ). IsBefore e.0 t) k.0 h)
-over e f g (inr h) (inl k) = inl (subst (λ (t : List ℕ). IsBefore t g.0) (sym h.0) k)
-over e f g (inr h) (inr k) = inr (h.0 ∙ k.0, over_text e.1 f.1 g.1 h.1 k.1)
 
 just_one : (s : Study) (P : List ℕ × List ℕ → Type 0) (a b : Study) → HasJustPairs s P a → HasJustPairs s P b → a ≡ b
 just_one s P a b h k =
-    let pairs : a.pairs ≡ b.pairs = sorted_one ComesBefore never over a.pairs b.pairs h.in_order k.in_order (λ e c. (k.just e).1 ((h.just e).0 c)) (λ e c. (h.just e).1 ((k.just e).0 c)) in
+    let pairs : a.pairs ≡ b.pairs = ordered_one a.pairs b.pairs h.in_order k.in_order (λ e c. (k.just e).1 ((h.just e).0 c)) (λ e c. (h.just e).1 ((k.just e).0 c)) in
     h.others ∙ ap (λ (t : List (List ℕ × List ℕ)). record s { pairs = t }) pairs ∙ sym k.others
 
 not_among : (s : Study) (name : List ℕ) → IsUnknown s name → Contains (names_of s) name → ⊥

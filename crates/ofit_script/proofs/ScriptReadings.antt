@@ -13,6 +13,7 @@ use Rattle.ofit_study.specs.declared.edit.Edit.TheVariants.{Add, Remove, Value, 
 use Rattle.ofit_study.specs.declared.settings.Settings.{Settings}
 use Rattle.ofit_study.specs.FieldRead.{IsRowNumber, IsValue, IsWeight}
 use Rattle.ofit_study.proofs.FieldReads.{one_value, one_weight}
+use Rattle.ofit_study.proofs.Zips.{split, zip_one}
 use Rattle.ofit_script.specs.declared.fault.ScriptFault.{ScriptFault}
 use Rattle.ofit_script.specs.declared.kind.Kind.{Kind}
 use Rattle.ofit_script.specs.declared.kind.Kind.TheVariants as kind
@@ -167,15 +168,7 @@ module _ (places : ℕ) where
   line_one fields a b h k = same_lines fields a b (one_kind fields (line_kind a) (line_kind b) (good_line fields a h).shaped.of (good_line fields b k).shaped.of) h k
 
   lines_one : (records : List (List (List ℕ))) (xs ys : List Line) → AllZip (Spells places) records xs → AllZip (Spells places) records ys → xs ≡ ys
-  lines_one [] [] [] h k = refl
-  lines_one [] [] (y ∷ ys) h k = absurd k
-  lines_one [] (x ∷ xs) ys h k = absurd h
-  lines_one (fields ∷ records) [] ys h k = absurd h
-  lines_one (fields ∷ records) (x ∷ xs) [] h k = absurd k
-  lines_one (fields ∷ records) (x ∷ xs) (y ∷ ys) h k =
-      let one : x ≡ y = line_one fields x y h.0 k.0 in
-      let all : xs ≡ ys = lines_one records xs ys h.1 k.1 in
-      λ i. one i ∷ all i
+  lines_one = zip_one (Spells places) line_one
 
   no_fields : (k : Kind) (texts : List (List ℕ)) (number : ℕ) (fault : ScriptFault) → prints k ≡ true → FieldsFault places (kind_fields k) texts number fault → ⊥
   no_fields kind.Report texts number fault e h = h
@@ -227,27 +220,10 @@ module _ (places : ℕ) where
       all_fit (kind_fields (line_kind line)) (drop 1 fields) number f (good_line fields line h).fit
       (subst (λ (t : Kind). FieldsFault places (kind_fields t) (drop 1 fields) number f) (one_kind fields k (line_kind line) o.of (good_line fields line h).shaped.of) x)
 
-  -- what goes with one of the records, and with those before it
-  record Splits (before : List (List (List ℕ))) (fields : List (List ℕ)) (all : List Line) : Type 0 where
-    done : List Line
-    one : Line
-    rest : List Line
-    same : all ≡ done ++ one ∷ rest
-    each : AllZip (Spells places) before done
-    at : Spells places fields one
-
-  split : (before : List (List (List ℕ))) (fields : List (List ℕ)) (after : List (List (List ℕ))) (all : List Line) → AllZip (Spells places) (before ++ fields ∷ after) all → Splits before fields all
-  split [] fields after [] h = absurd h
-  split [] fields after (y ∷ all) h = record { done = []; one = y; rest = all; same = refl; each = tt; at = h.0 }
-  split (x ∷ before) fields after [] h = absurd h
-  split (x ∷ before) fields after (y ∷ all) h =
-      let s = split before fields after all h.1 in
-      record { done = y ∷ s.done; one = s.one; rest = s.rest; same = ap (λ (t : List Line). y ∷ t) s.same; each = (h.0, s.each); at = s.at }
-
   none_among : (before after : List (List (List ℕ))) (fields : List (List ℕ)) (lines all : List Line) (number : ℕ) (f : ScriptFault) → AreLines places before lines → RecordFault places lines fields number f
       → AreLines places (before ++ fields ∷ after) all → ⊥
   none_among before after fields lines all number f fine found h =
-      let s = split before fields after all h.each in
+      let s = split (Spells places) before fields after all h.each in
       let done : s.done ≡ lines = lines_one before s.done lines s.each fine.each in
       let same : all ≡ lines ++ s.one ∷ s.rest = s.same ∙ ap (λ (t : List Line). t ++ s.one ∷ s.rest) done in
       no_fault lines s.rest s.one fields number f s.at (subst (λ (t : List Line). length t ≤ most_lines) same h.few) (subst (λ (t : List Line). print_count t ≤ most_prints) same h.few_prints) found

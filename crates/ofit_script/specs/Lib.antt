@@ -1,5 +1,6 @@
 pub mod Kinds
 pub mod Lines
+pub mod Script
 pub mod LineText
 pub mod Spelling
 pub mod ScriptRead

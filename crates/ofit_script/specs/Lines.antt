@@ -1,8 +1,7 @@
 -- The lines of a script: at most so many, and at most so many that print a report or a sheet.
-use Rattle.std.specs.Prelude.{◌≤◌, ℕ, Bool, true, false, List, length, count_by, All, ⊤}
+use Rattle.std.specs.Prelude.{ℕ, Bool, true, false, List, count_by}
 use Rattle.ofit_script.specs.declared.line.Line.{Line}
 use Rattle.ofit_script.specs.declared.line.Line.TheVariants.{Change, Report, Sheet}
-use Rattle.ofit_study.specs.Edited.{IsEditInLimits}
 pub use Rattle.ofit_script.specs.declared.limits.TheConstants.{MOST_LINES as most_lines, MOST_PRINTS as most_prints}
 
 abbrev pub is_print : Line → Bool
@@ -12,15 +11,3 @@ is_print Sheet = true
 
 abbrev pub print_count : List Line → ℕ
 print_count lines = count_by is_print lines
-
--- the value and the weight of an edit are within the limits
-abbrev pub IsLineInLimits : Line → Type 0
-IsLineInLimits (Change edit) = IsEditInLimits edit
-IsLineInLimits Report = ⊤
-IsLineInLimits Sheet = ⊤
-
--- what each script keeps
-pub record IsScript (lines : List Line) : Type 0 where
-  pub few : length lines ≤ most_lines
-  pub few_prints : print_count lines ≤ most_prints
-  pub limits : All IsLineInLimits lines

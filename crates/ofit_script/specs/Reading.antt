@@ -6,7 +6,8 @@ use Rattle.ofit_script.specs.declared.fault.ScriptFault.TheVariants.{Memory}
 use Rattle.ofit_script.specs.declared.kind.Kind.{Kind}
 use Rattle.ofit_script.specs.declared.line.Line.{Line}
 use Rattle.ofit_script.specs.Kinds.{kind_fields, prints}
-use Rattle.ofit_script.specs.Lines.{IsLineInLimits, IsScript, is_print, most_lines, most_prints, print_count}
+use Rattle.ofit_script.specs.Lines.{is_print, most_lines, most_prints, print_count}
+use Rattle.ofit_script.specs.Script.{IsLineInLimits, IsScript}
 use Rattle.ofit_script.specs.Spelling.{FieldsFault, Spells}
 
 -- there is room for a line of this kind behind these

@@ -6,7 +6,8 @@ use Rattle.ofit_study.specs.declared.edit.Edit.{Edit}
 use Rattle.ofit_study.specs.Edited.{Edited}
 use Rattle.ofit_study.specs.Study.{Study, problem_stated}
 use Rattle.ofit_session.specs.declared.anew.Touch.{Touch}
-use Rattle.ofit_session.specs.Refit.{CountsAtMost, IsRefit}
+use Rattle.ofit_session.specs.Refit.{IsRefit}
+use Rattle.ofit_session.specs.CountsAtMost.{CountsAtMost}
 use Rattle.ofit_script.specs.declared.line.Line.{Line}
 use Rattle.ofit_script.specs.declared.line.Line.TheVariants.{Change, Report, Sheet}
 use Rattle.ofit_script.specs.ScriptGives.{LineGives, ScriptGives}

@@ -1,14 +1,12 @@
 -- What the lines of a script give for a study: the study after them, their text, and how many components they fit.
-use Rattle.std.specs.Prelude.{◌≡◌, ◌+◌, ◌++◌, ◌⊎◌, ℕ, List, [], ◌∷◌, All, Ok, Err}
-use Rattle.ofit_num.specs.Fit.{LeastBestValues}
-use Rattle.ofit_num.specs.Fraction.{Fraction, IsLowest}
+use Rattle.std.specs.Prelude.{◌≡◌, ◌+◌, ◌++◌, ◌⊎◌, ℕ, List, [], ◌∷◌, Ok, Err}
 use Rattle.ofit_study.specs.declared.edit.Edit.{Edit}
 use Rattle.ofit_study.specs.declared.fault.EditFault.{EditFault}
 use Rattle.ofit_study.specs.Counted.{HasComponentCount}
 use Rattle.ofit_study.specs.Edited.{Edited}
-use Rattle.ofit_study.specs.Study.{Study, meaning_of, problem_stated}
+use Rattle.ofit_study.specs.Study.{Study, problem_stated}
 use Rattle.ofit_cert.specs.FitSheet.{IsFitOf}
-use Rattle.ofit_report.specs.ReportText.{ReportText}
+use Rattle.ofit_report.specs.ReportOf.{IsReportOf}
 use Rattle.ofit_session.specs.Refit.{IsRefit}
 use Rattle.ofit_script.specs.declared.line.Line.{Line}
 use Rattle.ofit_script.specs.declared.line.Line.TheVariants.{Change, Report, Sheet}
@@ -32,11 +30,8 @@ pub record RefusesEdit (r : ℕ) (s : Study) (edit : Edit) (after : Study) (text
 
 -- the report of the study with its least best values, in lowest terms; the study stays
 pub record PrintsReport (r : ℕ) (s : Study) (after : Study) (text : List ℕ) (fits : ℕ) : Type 0 where
-  pub values : List Fraction
-  pub least_best : LeastBestValues (meaning_of s.settings.loss) (problem_stated s) values
-  pub lowest : All IsLowest values
   pub report : List ℕ
-  pub told : ReportText s values report
+  pub is_report : IsReportOf s report
   pub stays : after ≡ s
   pub none : fits ≡ 0
   pub printed : text ≡ report_text r report

@@ -1,4 +1,4 @@
-ghost use Rattle.std.specs.Prelude.{◌≡◌, ◌⊎◌, IsErrOf};
+ghost use Rattle.std.specs.Prelude.{◌⊎◌, IsErrOf};
 ghost use Rattle.ofit_study.specs.Settings.{InLimits};
 ghost use Rattle.ofit_script.specs.declared.fault.ScriptFault.TheVariants.{Memory};
 ghost use Rattle.ofit_script.specs.ScriptRead.{ScriptRead};
@@ -16,7 +16,7 @@ use std::alloc::Global;
 /// The first fault otherwise is that of the first record that has one, and of its faults the first of
 /// [`ScriptFault::TooManyLines`], [`ScriptFault::UnknownLine`], [`ScriptFault::FieldCount`],
 /// [`ScriptFault::TooManyPrints`] and what its fields give from left to right. Time linear in the bytes,
-/// memory linear in the lines.
+/// memory linear in the lines and the longest record.
 pub fn read_script(alloc: Global, bytes: &[u8], settings: &Settings) -> Result<Script, ScriptFault>
     requires { InLimits settings.now }
     ensures { IsErrOf result Memory ⊎ ScriptRead bytes.now settings.now result }

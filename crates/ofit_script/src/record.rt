@@ -1,10 +1,10 @@
-ghost use Rattle.std.specs.Prelude.{◌≡◌, ◌≤◌, ◌⊎◌, [], ◌∷◌, ℕ, IfErr, IfOk, Some, drop, length, slice_get};
+ghost use Rattle.std.specs.Prelude.{◌≡◌, ◌≤◌, ◌⊎◌, [], ◌∷◌, ℕ, IfErr, IfOk, drop, length};
 ghost use Rattle.csv.specs.Records.{fields_of};
 ghost use Rattle.ofit_study.specs.Name.{IsName};
 ghost use Rattle.ofit_script.specs.declared.fault.ScriptFault.TheVariants.{Memory};
 ghost use Rattle.ofit_script.specs.declared.kind.Kind.TheVariants as the_kind;
-ghost use Rattle.ofit_script.specs.Kinds.{group_name as named, kind_fields};
-ghost use Rattle.ofit_script.specs.Spelling.{FieldsFault, IsShaped, Spells};
+ghost use Rattle.ofit_script.specs.Kinds.{group_name as named};
+ghost use Rattle.ofit_script.specs.Spelling.{FieldsFault, IsShaped};
 ghost use Rattle.ofit_script.specs.Reading.{FieldsRead};
 
 use crate::fault::ScriptFault;

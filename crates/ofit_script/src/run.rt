@@ -1,6 +1,6 @@
 ghost use Rattle.std.specs.Prelude.{◌≡◌, ◌≤◌, ◌<◌, ◌+◌, ◌^◌, ◌⊎◌, ℕ, IfNone, IfOk, OnErr, OnOk, length};
-ghost use Rattle.ofit_study.specs.Edited.{IsEditInLimits};
-ghost use Rattle.ofit_session.specs.Refit.{CountsAtMost};
+ghost use Rattle.ofit_study.specs.EditLimits.{IsEditInLimits};
+ghost use Rattle.ofit_session.specs.CountsAtMost.{CountsAtMost};
 ghost use Rattle.ofit_script.specs.declared.line.Line.TheVariants.{Change};
 ghost use Rattle.ofit_script.specs.ScriptGives.{ScriptFits, ScriptGives};
 ghost use Rattle.ofit_script.specs.Runs.{CountsLine, IsBehind, IsRun, RanInPart, Touches, line_at};

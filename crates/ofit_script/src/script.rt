@@ -19,7 +19,8 @@ pub struct Script {
 impl Model for Script {
     ghost use Rattle.std.specs.Prelude.{◌≡◌, List};
     ghost use Rattle.ofit_script.specs.declared.line.Line.{Line as Stated};
-    ghost use Rattle.ofit_script.specs.Lines.{IsScript, print_count};
+    ghost use Rattle.ofit_script.specs.Lines.{print_count};
+    ghost use Rattle.ofit_script.specs.Script.{IsScript, IsLineInLimits, IsScript};
 
     ghost Value = { List Stated };
 
@@ -32,7 +33,7 @@ impl Script {
     ghost use Rattle.std.specs.Prelude.{◌≡◌, ◌≤◌, ◌<◌, ◌+◌, ◌⊎◌, ◌++◌, ◌∷◌, [], ℕ, IfErr, IfOk, OnErr, OnOk, Some, length, slice_get};
     ghost use Rattle.csv.specs.Records.{fields_of};
     ghost use Rattle.ofit_script.specs.declared.fault.ScriptFault.TheVariants.{Memory};
-    ghost use Rattle.ofit_script.specs.Lines.{IsLineInLimits, IsScript, print_count};
+    ghost use Rattle.ofit_script.specs.Lines.{print_count};
     ghost use Rattle.ofit_script.specs.Spelling.{IsShaped, RecordFault, Spells};
     ghost use Rattle.ofit_script.specs.Reading.{HasRoom};
 

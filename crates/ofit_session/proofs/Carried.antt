@@ -33,7 +33,7 @@ name_in : (s : Study) (g : ℕ) → g < length (names_of s) → Contains (names_
 name_in s g l = Contains-get_or (names_of s) g [] l
 
 -- a place's name is its own
-same_place : (s : Study) (i j : ℕ) → i < length (names_of s) → j < length (names_of s) → name_at (names_of s) i ≡ name_at (names_of s) j → i ≡ j
+pub same_place : (s : Study) (i j : ℕ) → i < length (names_of s) → j < length (names_of s) → name_at (names_of s) i ≡ name_at (names_of s) j → i ≡ j
 same_place s i j l k e =
     sym (place_among-at (names_of s) (group_names-distinct s.rows) i l)
     ∙ ap (λ (n : List ℕ). (placed (names_of s) (n, n)).0) e

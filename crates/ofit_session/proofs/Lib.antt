@@ -2,3 +2,4 @@ pub mod Carried
 pub mod Refitting
 pub mod Touches
 pub mod Untouched
+mod Changed

@@ -5,9 +5,12 @@ use Rattle.std.specs.Prelude.{Contains, Some, Ok, IsErrOf, slice_get, ◌↔◌}
 use Rattle.ofit_num.specs.Tally.{Counts}
 use Rattle.ofit_num.specs.Fit.{LeastBestValues}
 use Rattle.ofit_num.specs.Fraction.{Fraction}
-use Rattle.ofit_order.specs.Component.{AreMembers, HasComponent, IsComponentOf}
-use Rattle.ofit_order.specs.Relation.{Relation, AreInOrder, AreWithin}
-use Rattle.ofit_fit.specs.Part.{IsOrderOf, part_of, values_at}
+use Rattle.ofit_order.specs.Component.{AreMembers, IsComponentOf}
+use Rattle.ofit_order.specs.Numbers.{HasComponent}
+use Rattle.ofit_order.specs.Relation.{Relation, AreInOrder}
+use Rattle.ofit_order.specs.Within.{AreWithin}
+use Rattle.ofit_fit.specs.Part.{part_of, values_at}
+use Rattle.ofit_fit.specs.OrderOf.{IsOrderOf}
 use Rattle.ofit_fit.proofs.Components.{members_closed}
 use Rattle.ofit_fit.proofs.Closed.{IsClosed}
 use Rattle.ofit_study.specs.declared.edit.Edit.{Edit}
@@ -16,7 +19,8 @@ use Rattle.ofit_study.specs.Kept.{name_at}
 use Rattle.ofit_study.specs.Study.{Study, IsValid, names_of, places_of, problem_stated, meaning_of}
 use Rattle.ofit_study.proofs.Touching.{same_apart}
 use Rattle.ofit_session.specs.Fitted.{IsFit}
-use Rattle.ofit_session.specs.Refit.{AreHolding, CountsAtMost, HasOneNamed, IsRefit}
+use Rattle.ofit_session.specs.Refit.{AreHolding, HasOneNamed, IsRefit}
+use Rattle.ofit_session.specs.CountsAtMost.{CountsAtMost}
 use Rattle.ofit_study.proofs.Places.{group_count}
 use Rattle.ofit_session.proofs.Carried.{part_carried}
 

@@ -1,13 +1,12 @@
 -- The components that an edit touches, and how many of them there are.
-use Rattle.std.specs.Prelude.{◌≡◌, ◌≤◌, ◌+◌, ◌⊎◌, ◌↔◌, ℕ, List, Some, Ok, length, slice_get}
+use Rattle.std.specs.Prelude.{◌≡◌, ◌↔◌, ℕ, List, Some, length, slice_get}
 use Rattle.std.specs.List.{Contains}
 use Rattle.std.specs.List.Sorted.{IsStrictlyIncreasing}
-use Rattle.ofit_num.specs.Tally.{Counts}
 use Rattle.ofit_order.specs.Component.{IsComponentOf}
 use Rattle.ofit_order.specs.Relation.{Relation}
-use Rattle.ofit_fit.specs.Part.{IsOrderOf}
+use Rattle.ofit_fit.specs.OrderOf.{IsOrderOf}
 use Rattle.ofit_study.specs.declared.edit.Edit.{Edit}
-use Rattle.ofit_study.specs.Edited.{Edited, touched}
+use Rattle.ofit_study.specs.Edited.{touched}
 use Rattle.ofit_study.specs.Study.{Study, names_of, problem_stated}
 
 -- the component has the group of this name
@@ -32,8 +31,3 @@ pub record IsRefit (before : Study) (edit : Edit) (after : Study) (n : ℕ) : Ty
   pub components : List ℕ
   pub holding : AreHolding order after (touched before edit) components
   pub count : n ≡ length components
-
--- nothing was fitted, or the edit is one that the study takes and at most its touched components were fitted
-abbrev pub CountsAtMost : Study → Edit → Counts → Counts → Type 0
-CountsAtMost s edit before now =
-    (now ≡ before) ⊎ ((after : Study) × (n : ℕ) × Edited s edit (Ok after) × IsRefit s edit after n × (now.fits ≤ before.fits + n))

@@ -1,5 +1,6 @@
 ghost use Rattle.std.specs.Prelude.{◌≡◌, ◌≤◌, ◌+◌, ◌^◌, ◌⊎◌, ℕ, IfOk, OnErr};
 ghost use Rattle.ofit_fit.specs.Counted.{HasComponentCount};
+ghost use Rattle.ofit_fit.specs.OrderOf.{IsOrderOf};
 ghost use Rattle.ofit_study.specs.Edited.{IsAfter};
 ghost use Rattle.ofit_study.specs.Study.{problem_stated};
 ghost use Rattle.ofit_session.specs.Fitted.{IsFit};
@@ -9,6 +10,7 @@ use crate::carry::carried;
 use crate::refit::refitted;
 use crate::touch::touched_components;
 use ofit_num::{Frac, Tally};
+use ofit_order::Order;
 use ofit_study::{Edit, Study};
 use std::alloc::{AllocError, Global};
 
@@ -29,9 +31,11 @@ pub(crate) fn fit_edited(
     values: &[Frac],
     edit: &Edit,
     after: &Study,
+    order: &Order,
     tally: &mut Tally,
 ) -> Result<(Vec<Frac>, Touch), AllocError>
     requires fit { IsFit before.now values.now }
+    requires order { IsOrderOf order.now (problem_stated after.now) }
     requires edited { IsAfter before.now edit.now after.now }
     requires room { tally.old.fits ≤ 2 ^ 63 + 2 ^ 32 }
     requires room_for_cuts { tally.old.cuts ≤ 2 ^ 63 + 2 ^ 32 }
@@ -47,11 +51,10 @@ pub(crate) fn fit_edited(
 {
     before.keeps_limits();
     after.keeps_limits();
-    let order = after.order(alloc)?;
     let count = order.component_count();
-    let touched = touched_components(alloc, &order, before, edit, after)?;
+    let touched = touched_components(alloc, order, before, edit, after)?;
     let own = carried(alloc, before, values, after)?;
-    let fitted = refitted(alloc, after, &order, touched.as_slice(), own, tally)?;
+    let fitted = refitted(alloc, after, order, touched.as_slice(), own, tally)?;
     let touch = Touch {
         refitted: touched.len() as u32,
         components: count,

@@ -4,7 +4,6 @@
 
 mod anew;
 mod carry;
-mod lowest;
 mod refit;
 mod session;
 mod touch;

@@ -1,8 +1,10 @@
 ghost use Rattle.std.specs.Prelude.{◌≡◌, ◌+◌, ◌≤◌, ◌^◌, ℕ, IfOk, OnOk, OnErr, List, length};
 ghost use Rattle.std.specs.List.{Contains};
 ghost use Rattle.ofit_num.specs.Fit.{LeastBestValues};
-ghost use Rattle.ofit_order.specs.Component.{AreMembers, HasComponent};
-ghost use Rattle.ofit_fit.specs.Part.{IsOrderOf, part_of, values_at};
+ghost use Rattle.ofit_order.specs.Component.{AreMembers};
+ghost use Rattle.ofit_order.specs.Numbers.{HasComponent};
+ghost use Rattle.ofit_fit.specs.Part.{part_of, values_at};
+ghost use Rattle.ofit_fit.specs.OrderOf.{IsOrderOf};
 ghost use Rattle.ofit_study.specs.Study.{groups_of, problem_stated, meaning_of};
 ghost use Rattle.ofit_session.specs.Fitted.{IsFit};
 

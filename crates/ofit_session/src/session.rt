@@ -1,11 +1,11 @@
 use crate::anew::{Touch, fit_edited};
-use crate::lowest::are_lowest;
 use ofit_cert::certify;
-use ofit_fit::fit_study;
-use ofit_num::{Frac, Tally};
+use ofit_fit::{fit_component, fit_study, put_values};
+use ofit_num::{Frac, Tally, are_lowest};
+use ofit_order::Order;
 use ofit_report::write_report;
 use ofit_sheet::Sheet;
-use ofit_study::{Edit, EditFault, Study};
+use ofit_study::{Edit, EditFault, RowChange, Study};
 use std::alloc::{AllocError, Global};
 use std::marker::Model;
 
@@ -13,17 +13,20 @@ use std::marker::Model;
 #[derive(Drop)]
 pub struct Session {
     study: Study,
+    order: Order,
     values: Vec<Frac>,
 }
 
 impl Model for Session {
+    ghost use Rattle.ofit_fit.specs.OrderOf.{IsOrderOf};
+    ghost use Rattle.ofit_study.specs.Study.{problem_stated};
     ghost use Rattle.ofit_session.specs.Fitted.{Fitted, IsFit};
 
     ghost Value = { Fitted };
 
     ghost view = { λ s. record { study = s.study; values = s.values.items } };
 
-    ghost invariant = { λ s. IsFit s.study s.values.items };
+    ghost invariant = { λ s. IsFit s.study s.values.items × IsOrderOf s.order (problem_stated s.study) };
 }
 
 impl Session {
@@ -34,10 +37,14 @@ impl Session {
     ghost use Rattle.ofit_fit.specs.Counted.{HasComponentCount, HasCutCount};
     ghost use Rattle.ofit_report.specs.ReportText.{ReportText};
     ghost use Rattle.ofit_study.specs.declared.fault.EditFault.TheVariants.{Memory};
-    ghost use Rattle.ofit_study.specs.Edited.{Edited, IsEditInLimits, IsRefusal};
+    ghost use Rattle.ofit_study.specs.declared.edit.Edit.{Edit};
+    ghost use Rattle.ofit_study.specs.Change.{IsChangeFor, IsChangeOf, KeepsFirstRows, changed};
+    ghost use Rattle.ofit_study.specs.Edited.{Edited, IsAccepted, IsAfter, IsRefusal};
+    ghost use Rattle.ofit_study.specs.EditLimits.{IsEditInLimits};
     ghost use Rattle.ofit_study.specs.Study.{names_of, problem_stated, meaning_of};
     ghost use Rattle.ofit_session.specs.Fitted.{IsFit};
-    ghost use Rattle.ofit_session.specs.Refit.{CountsAtMost, IsRefit};
+    ghost use Rattle.ofit_session.specs.Refit.{IsRefit};
+    ghost use Rattle.ofit_session.specs.CountsAtMost.{CountsAtMost};
 
     /// The session of a study, which is fitted. The tally counts each of its components. After want of
     /// memory the study is gone.
@@ -53,8 +60,13 @@ impl Session {
         ensures grown_cuts { tally.old.cuts ≤ tally.new.cuts }
         ensures fewer_cuts { tally.new.cuts + tally.old.fits ≤ tally.old.cuts + tally.new.fits }
     {
+        let order = study.order(alloc)?;
         let values = fit_study(alloc, &study, tally)?;
-        Ok(Session { study, values })
+        Ok(Session {
+            study,
+            order,
+            values,
+        })
     }
 
     /// The study as it stands.
@@ -75,7 +87,9 @@ impl Session {
 
     /// Edits the study. The components that hold a group that the edit touches are fitted anew, and the
     /// tally counts each; all other values stay, by the names of their groups. After a fault the session
-    /// is as before.
+    /// is as before. Another value or weight of a row takes time linear in the rows of its group, and that
+    /// of the fit of its component; a row less or more a copy of the list of rows besides, where its group
+    /// has a row before it; each other edit time linear in the study, and that of its order.
     ///
     /// # Errors
     ///
@@ -98,20 +112,84 @@ impl Session {
         ensures grown_cuts { tally.old.cuts ≤ tally.new.cuts }
         ensures fewer_cuts { tally.new.cuts + tally.old.fits ≤ tally.old.cuts + tally.new.fits }
     {
+        match self.study.row_change(edit)? {
+            Some(change) => Ok(self.change_row(change, tally)?),
+            None => Ok(self.edit_anew(edit, tally)?),
+        }
+    }
+
+    /// Changes a row, and fits the component of its group anew. After want of memory the session is as
+    /// before.
+    fn change_row(&mut self, mut change: RowChange, tally: &mut Tally) -> Result<Touch, AllocError>
+        requires change { IsChangeOf self.old.study change }
+        requires room { tally.old.fits ≤ 2 ^ 63 + 2 ^ 32 }
+        requires room_for_cuts { tally.old.cuts ≤ 2 ^ 63 + 2 ^ 32 }
+        ensures changed { OnOk result (self.new.study ≡ changed self.old.study change) }
+        ensures fit { OnOk result (IsFit self.new.study self.new.values) }
+        ensures refitted { IfOk result (λ touch. (edit : Edit) → IsChangeFor self.old.study edit change → IsRefit self.old.study edit self.new.study touch.refitted) }
+        ensures components { IfOk result (λ touch. HasComponentCount (problem_stated self.new.study) touch.components) }
+        ensures one { IfOk result (λ touch. touch.refitted ≡ 1) }
+        ensures counted { IfOk result (λ touch. tally.new.fits ≡ tally.old.fits + touch.refitted) }
+        ensures unchanged { OnErr result (self.new ≡ self.old) }
+        ensures limited { OnErr result ((edit : Edit) → IsAccepted self.old.study edit → IsChangeFor self.old.study edit change → CountsAtMost self.old.study edit tally.old tally.new) }
+        ensures grown { tally.old.fits ≤ tally.new.fits }
+        ensures grown_cuts { tally.old.cuts ≤ tally.new.cuts }
+        ensures fewer_cuts { tally.new.cuts + tally.old.fits ≤ tally.old.cuts + tally.new.fits }
+    {
         let alloc = *self.values.allocator();
-        let study = match self.study.edited(edit) {
-            Ok(study) => study,
-            Err(fault) => return Err(fault),
+        let components = self.order.component_count();
+        let component = self.order.component_of(change.place());
+        self.study.keeps_limits();
+        self.study.exchange(&mut change);
+        let picked = match fit_component(alloc, &self.study, &self.order, component, tally) {
+            Ok(picked) => picked,
+            Err(full) => {
+                self.study.exchange(&mut change);
+                return Err(full);
+            }
         };
+        let members = self.order.members(component);
+        put_values(&mut self.values, members, picked.as_slice());
+        Ok(Touch {
+            refitted: 1,
+            components,
+        })
+    }
+
+    /// Edits the study in another way than by the change of a row, and fits the touched components anew.
+    /// After want of memory the session is as before.
+    fn edit_anew(&mut self, edit: &Edit, tally: &mut Tally) -> Result<Touch, AllocError>
+        requires edit { IsEditInLimits edit.now }
+        requires accepted { IsAccepted self.old.study edit.now }
+        requires other { KeepsFirstRows self.old.study edit.now → ⊥ }
+        requires room { tally.old.fits ≤ 2 ^ 63 + 2 ^ 32 }
+        requires room_for_cuts { tally.old.cuts ≤ 2 ^ 63 + 2 ^ 32 }
+        ensures edited { OnOk result (IsAfter self.old.study edit.now self.new.study) }
+        ensures fit { OnOk result (IsFit self.new.study self.new.values) }
+        ensures refitted { IfOk result (λ touch. IsRefit self.old.study edit.now self.new.study touch.refitted) }
+        ensures components { IfOk result (λ touch. HasComponentCount (problem_stated self.new.study) touch.components) }
+        ensures few { IfOk result (λ touch. touch.refitted ≤ 2) }
+        ensures counted { IfOk result (λ touch. tally.new.fits ≡ tally.old.fits + touch.refitted) }
+        ensures unchanged { OnErr result (self.new ≡ self.old) }
+        ensures limited { OnErr result (CountsAtMost self.old.study edit.now tally.old tally.new) }
+        ensures grown { tally.old.fits ≤ tally.new.fits }
+        ensures grown_cuts { tally.old.cuts ≤ tally.new.cuts }
+        ensures fewer_cuts { tally.new.cuts + tally.old.fits ≤ tally.old.cuts + tally.new.fits }
+    {
+        let alloc = *self.values.allocator();
+        let study = self.study.edited_anew(edit)?;
+        let order = study.order(alloc)?;
         let (values, touch) = fit_edited(
             alloc,
             &self.study,
             self.values.as_slice(),
             edit,
             &study,
+            &order,
             tally,
         )?;
         self.study = study;
+        self.order = order;
         self.values = values;
         Ok(touch)
     }

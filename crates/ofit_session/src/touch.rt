@@ -1,7 +1,7 @@
 ghost use Rattle.std.specs.Prelude.{◌≡◌, ◌≤◌, ◌↔◌, ◌⊎◌, [], ◌∷◌, ℕ, Some, IfOk, vec_len};
 ghost use Rattle.std.specs.List.{Contains};
 ghost use Rattle.std.specs.List.Sorted.{IsStrictlyIncreasing};
-ghost use Rattle.ofit_fit.specs.Part.{IsOrderOf};
+ghost use Rattle.ofit_fit.specs.OrderOf.{IsOrderOf};
 ghost use Rattle.ofit_study.specs.Edited.{groups_numbered, touched};
 ghost use Rattle.ofit_study.specs.Study.{problem_stated};
 ghost use Rattle.ofit_session.specs.Refit.{AreHolding, HasNamed, HasOneNamed};

@@ -8,7 +8,8 @@ use Rattle.ofit_num.specs.Fraction.{Fraction, IsLowest}
 use Rattle.ofit_num.specs.Sheet as num
 use Rattle.ofit_study.specs.declared.settings.Settings.{Settings}
 use Rattle.ofit_sheet.specs.declared.size.Size.{Size}
-use Rattle.ofit_sheet.specs.Kept.{IsKept, IsSizeInLimits, IsAmountInLimits, IsFractionInLimits, HasParts, most_amount}
+use Rattle.ofit_sheet.specs.Kept.{IsKept, IsSizeInLimits, IsAmountInLimits, IsFractionInLimits, most_amount}
+use Rattle.ofit_sheet.specs.Made.{HasParts}
 use Rattle.ofit_sheet.specs.Parts.{size_of, entry_of, flow_of, sheet_of}
 use Rattle.ofit_sheet.proofs.Rising.{pairs_head, pairs_tail}
 

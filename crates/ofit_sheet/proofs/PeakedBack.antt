@@ -15,7 +15,8 @@ use Rattle.ofit_sheet.specs.declared.peaked.slope.Slope.{Slope}
 use Rattle.ofit_sheet.specs.declared.peaked.slope.Slope.TheVariants.{Rise, Fall}
 use Rattle.ofit_sheet.specs.SheetText.{name_at, end_fields}
 use Rattle.ofit_sheet.specs.Peaked.{Peaked, IsShaped, IsSide, IsInLimits, IsStepInLimits, most_cost}
-use Rattle.ofit_sheet.specs.PeakedText.{peaked_header_fields, peak_fields, peaked_value_fields, value_records, step_fields, side_start, side_records, sides_records, sides_of, peaked_records, peaked_text}
+use Rattle.ofit_sheet.specs.PeakedText.{peaked_header_fields, peak_fields, peaked_value_fields, value_records, step_fields, side_start, side_records, sides_records, peaked_records, peaked_text}
+use Rattle.ofit_sheet.specs.Sides.{sides_of}
 use Rattle.ofit_sheet.specs.Slots.{Slot, peak_slot, value_slot, side_slot, step_slot, last_slot, end_slot, steps_before_last, side_slots, sides_slots, value_slots, slots}
 use Rattle.ofit_sheet.specs.PeakedRead.{Item, value_item, step_item, end_item, IsPeakedHeader, SpellsPeak, SpellsSlot, step_told, side_items, items_of, PeakedRead}
 use Rattle.ofit_sheet.specs.PeakedSteps.{AreSpelled, Takes}

@@ -16,7 +16,8 @@ use Rattle.ofit_sheet.specs.declared.item.Item.{Item}
 use Rattle.ofit_sheet.specs.declared.item.Item.TheVariants as it
 use Rattle.ofit_sheet.specs.declared.fault.SheetFault.{SheetFault}
 use Rattle.ofit_sheet.specs.declared.fault.SheetFault.TheVariants as fault
-use Rattle.ofit_sheet.specs.Kept.{IsSizeInLimits, IsFractionInLimits, ArePartsOfSheet, most_amount}
+use Rattle.ofit_sheet.specs.Kept.{IsSizeInLimits, IsFractionInLimits, most_amount}
+use Rattle.ofit_sheet.specs.Made.{ArePartsOfSheet}
 use Rattle.ofit_sheet.specs.Parts.{sheet_of}
 use Rattle.ofit_sheet.specs.Frame.{IsGood, AreGood, Rules, StopsAt, HasBadHeader}
 use Rattle.ofit_sheet.specs.Rules.{value_in, flow_in, values_of, flows_of, sheet_rules}

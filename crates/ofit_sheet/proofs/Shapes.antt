@@ -5,7 +5,8 @@ use Rattle.std.proofs.lemmas.Option.{slice_get-get_or, get_or_from_slice_get}
 use Rattle.ofit_sheet.specs.declared.peaked.slope.Slope.{Slope}
 use Rattle.ofit_sheet.specs.declared.peaked.slope.Slope.TheVariants.{Rise, Fall}
 use Rattle.ofit_sheet.specs.Peaked.{Peaked, IsShaped, IsSide, rise_at, fall_at}
-use Rattle.ofit_sheet.specs.PeakedText.{side_start, sides_of}
+use Rattle.ofit_sheet.specs.PeakedText.{side_start}
+use Rattle.ofit_sheet.specs.Sides.{sides_of}
 use Rattle.ofit_sheet.specs.Slots.{steps_before_last}
 
 back : (k : ℕ) → k + 1 - 1 ≡ k

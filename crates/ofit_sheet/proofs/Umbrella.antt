@@ -7,7 +7,8 @@ use Rattle.std.specs.List.{range_with_len}
 use Rattle.ofit_num.specs.Problem.{Problem}
 use Rattle.ofit_num.specs.Trial.{Trial}
 use Rattle.ofit_num.specs.Fit.{Obeys}
-use Rattle.ofit_sheet.specs.Unimodal.{IsUnimodal, umbrella, HasNoBounds}
+use Rattle.ofit_sheet.specs.Unimodal.{IsUnimodal, umbrella}
+use Rattle.ofit_sheet.specs.Unbounded.{HasNoBounds}
 
 module _ (P : ℕ × ℕ → Type 0) (f : ℕ → ℕ × ℕ) where
   listed : (a m : ℕ) → ((i : ℕ) → a ≤ i → i < a + m → P (f i)) → All P (map f (range_with_len a m))

@@ -1,5 +1,6 @@
 pub mod Parts
 pub mod Kept
+pub mod Made
 pub mod SheetText
 pub mod Spelling
 pub mod Rules
@@ -10,8 +11,10 @@ pub mod Steps
 pub mod Frame
 pub mod Peaked
 pub mod PeakedText
+pub mod Sides
 pub mod Slots
 pub mod PeakedRead
 pub mod PeakedSteps
 pub mod Unimodal
+pub mod Unbounded
 pub mod PeakVerdict

@@ -23,11 +23,8 @@ SlotRead names slot fields told result = IsReading (SpellsSlot names slot fields
 -- records that are what the slots ask for, within their limits
 abbrev pub AreSpelled : List (List ℕ) → List Slot → List (List (List ℕ)) → List Item → Type 0
 AreSpelled names [] [] [] = ⊤
-AreSpelled names [] [] (item ∷ items) = ⊥
-AreSpelled names [] (fields ∷ rows) items = ⊥
-AreSpelled names (slot ∷ slots) [] items = ⊥
-AreSpelled names (slot ∷ slots) (fields ∷ rows) [] = ⊥
 AreSpelled names (slot ∷ slots) (fields ∷ rows) (item ∷ items) = (SpellsSlot names slot fields item × IsWithinLimits item) × AreSpelled names slots rows items
+AreSpelled names slots rows items = ⊥
 
 -- the first records are what the slots ask for: the number of the last record read, and the records to come, before and after
 pub record Takes (names : List (List ℕ)) (slots : List Slot) (items : List Item) (number : ℕ) (rows : List (List (List ℕ))) (later : ℕ) (left : List (List (List ℕ))) : Type 0 where
@@ -71,12 +68,11 @@ pub record SaysTooMuch (names : List (List ℕ)) (slot : Slot) (fields : List (L
   pub beyond : IsWithinLimits item → ⊥
 
 abbrev pub PartFault : List (List ℕ) → List Slot → ℕ → List (List (List ℕ)) → SheetFault → Type 0
-PartFault names slots number rows fault.BadHeader = ⊥
 PartFault names slots number rows (fault.BadRecord at) = StopsIn names slots number rows at (SaysNothing names)
 PartFault names slots number rows (fault.NumberTooLarge at) = StopsIn names slots number rows at (SaysTooMuch names)
 PartFault names slots number rows fault.NoEnd = EndsIn names slots rows
-PartFault names slots number rows (fault.AfterEnd at) = ⊥
 PartFault names slots number rows fault.Memory = ⊤
+PartFault names slots number rows other = ⊥
 
 -- what the reading of the records gives that have to be what the slots ask for
 abbrev pub PartRead : {X : Type 0} → List (List ℕ) → List Slot → (X → List Item) → ℕ → List (List (List ℕ)) → ℕ → List (List (List ℕ)) → Result X SheetFault → Type 0
@@ -91,22 +87,16 @@ fault_of number TooLarge = fault.NumberTooLarge number
 -- the next record, of which there may be none
 abbrev pub Advances : ℕ → List (List (List ℕ)) → List (List ℕ) → ℕ → List (List (List ℕ)) → Result Unit SheetFault → Type 0
 Advances number rows fields later left (Ok u) = (rows ≡ fields ∷ left) × (later ≡ number + 1)
-Advances number rows fields later left (Err fault.BadHeader) = ⊥
-Advances number rows fields later left (Err (fault.BadRecord at)) = ⊥
-Advances number rows fields later left (Err (fault.NumberTooLarge at)) = ⊥
 Advances number rows fields later left (Err fault.NoEnd) = rows ≡ []
-Advances number rows fields later left (Err (fault.AfterEnd at)) = ⊥
 Advances number rows fields later left (Err fault.Memory) = ⊤
+Advances number rows fields later left (Err other) = ⊥
 
 -- the header, behind which others are left
 abbrev pub PlacesRead : ℕ → List (List (List ℕ)) → ℕ → List (List (List ℕ)) → Result ℕ SheetFault → Type 0
 PlacesRead number rows later left (Ok places) = (first : List (List ℕ)) × (rows ≡ first ∷ left) × IsPeakedHeader first places × (later ≡ number + 1)
 PlacesRead number rows later left (Err fault.BadHeader) = HasBadHeader IsPeakedHeader rows
-PlacesRead number rows later left (Err (fault.BadRecord at)) = ⊥
-PlacesRead number rows later left (Err (fault.NumberTooLarge at)) = ⊥
-PlacesRead number rows later left (Err fault.NoEnd) = ⊥
-PlacesRead number rows later left (Err (fault.AfterEnd at)) = ⊥
 PlacesRead number rows later left (Err fault.Memory) = ⊤
+PlacesRead number rows later left (Err other) = ⊥
 
 -- the sides of a slope are as long as those of n groups
 abbrev pub HasSides : Slope → ℕ → List (List (ℤ × ℤ)) → Type 0

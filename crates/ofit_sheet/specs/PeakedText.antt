@@ -43,10 +43,6 @@ side_start Fall k = k
 abbrev pub side_fields : Slope → ℕ → List (List ℕ)
 side_fields slope k = slope_name slope ∷ decimal (side_number slope k) ∷ dash ∷ dash ∷ []
 
-abbrev pub sides_of : Slope → Peaked → List (List (ℤ × ℤ))
-sides_of Rise x = x.rises
-sides_of Fall x = x.falls
-
 -- a side with its index
 abbrev pub side_records : List (List ℕ) → Slope → ℕ × List (ℤ × ℤ) → List (List (List ℕ))
 side_records names slope e = side_fields slope e.0 ∷ map (step_fields names) (enumerate_from (side_start slope e.0) e.1)

@@ -38,21 +38,17 @@ ItemRead names sized draft fields result =
 abbrev pub HeaderRead : List (List (List ℕ)) → List (List (List ℕ)) → Result Header SheetFault → Type 0
 HeaderRead rows left (Ok head) = (first : List (List ℕ)) × (rows ≡ first ∷ left) × IsHeader first head
 HeaderRead rows left (Err fault.BadHeader) = HasBadHeader IsHeader rows
-HeaderRead rows left (Err (fault.BadRecord number)) = ⊥
-HeaderRead rows left (Err (fault.NumberTooLarge number)) = ⊥
-HeaderRead rows left (Err fault.NoEnd) = ⊥
-HeaderRead rows left (Err (fault.AfterEnd number)) = ⊥
 HeaderRead rows left (Err fault.Memory) = ⊤
+HeaderRead rows left (Err other) = ⊥
 
 -- what the next record gives
 abbrev pub RowRead : List (List ℕ) → Bool → List Item → List (List ℕ) → Result Draft SheetFault → Type 0
 RowRead names sized items fields (Ok after) = (item : Item) × IsGood (sheet_rules names sized) items fields item × (seen after ≡ told_of (items ++ item ∷ []))
-RowRead names sized items fields (Err fault.BadHeader) = ⊥
 RowRead names sized items fields (Err (fault.BadRecord number)) = (number ≡ length items + 2) × IsBad (sheet_rules names sized) items fields
 RowRead names sized items fields (Err (fault.NumberTooLarge number)) = (number ≡ length items + 2) × IsTooLarge (sheet_rules names sized) items fields
-RowRead names sized items fields (Err fault.NoEnd) = ⊥
 RowRead names sized items fields (Err (fault.AfterEnd number)) = (number ≡ length items + 2) × IsAfterEnd (sheet_rules names sized) items fields
 RowRead names sized items fields (Err fault.Memory) = ⊤
+RowRead names sized items fields (Err other) = ⊥
 
 -- the first of the records behind the header that has a fault
 pub record StopsBehind (names : List (List ℕ)) (sized : Bool) (rows : List (List (List ℕ))) (number : ℕ) (IsFault : Rules Item → List Item → List (List ℕ) → Type 0) : Type 0 where
@@ -68,9 +64,8 @@ pub record StopsBehind (names : List (List ℕ)) (sized : Bool) (rows : List (Li
 -- what all records behind the header give
 abbrev pub RestRead : List (List ℕ) → Bool → List (List (List ℕ)) → Result Draft SheetFault → Type 0
 RestRead names sized rows (Ok draft) = (items : List Item) × Follows names sized rows items draft
-RestRead names sized rows (Err fault.BadHeader) = ⊥
 RestRead names sized rows (Err (fault.BadRecord number)) = StopsBehind names sized rows number IsBad
 RestRead names sized rows (Err (fault.NumberTooLarge number)) = StopsBehind names sized rows number IsTooLarge
-RestRead names sized rows (Err fault.NoEnd) = ⊥
 RestRead names sized rows (Err (fault.AfterEnd number)) = StopsBehind names sized rows number IsAfterEnd
 RestRead names sized rows (Err fault.Memory) = ⊤
+RestRead names sized rows (Err other) = ⊥

@@ -1,7 +1,7 @@
 -- Values that rise up to a peak and fall from it, and the best of all peaks.
 use Rattle.std.specs.Prelude.{◌≡◌, ◌*◌, ◌^◌, ◌<◌, ◌≤◌, ℕ, suc, ℤ, pos, ◌≤ℤ◌, List, [], length, Option, Some, None, slice_index_or}
 pub use Rattle.ofit_num.specs.Pairs.{umbrella_pairs}
-use Rattle.ofit_num.specs.Problem.{Problem, Bounds}
+use Rattle.ofit_num.specs.Problem.{Problem}
 use Rattle.ofit_num.specs.Meaning.{Meaning}
 use Rattle.ofit_num.specs.Loss.{median}
 use Rattle.ofit_num.specs.Trial.{Trial}
@@ -20,14 +20,6 @@ pub record IsUnimodal (n peak : ℕ) (t : Trial) : Type 0 where
 -- a problem with the pairs of the umbrella in place of its own
 abbrev pub umbrella : Problem → ℕ → Problem
 umbrella s peak = record s { pairs = umbrella_pairs peak s.count }
-
--- no group of the problem has a bound
-pub record IsUnbounded (b : Bounds) : Type 0 where
-  pub lo : b.lo ≡ None
-  pub hi : b.hi ≡ None
-
-abbrev pub HasNoBounds : Problem → Type 0
-HasNoBounds s = (g : ℕ) → g < s.count → IsUnbounded (s.bounds g)
 
 -- t costs less than u
 pub record IsCheaper (m : Meaning) (s : Problem) (t u : Trial) : Type 0 where

@@ -1,4 +1,4 @@
-ghost use Rattle.std.specs.Prelude.{◌≡◌, ◌↔◌, ℤ, Option as Maybe, IsTrue};
+ghost use Rattle.std.specs.Prelude.{◌↔◌, ℤ, Option as Maybe, IsTrue};
 ghost use Rattle.ofit_study.specs.Settings.{IsBoundInLimits, InOrder};
 ghost use Rattle.ofit_sheet.specs.Reading.{IsReading};
 ghost use Rattle.ofit_sheet.specs.Spelling.{IsBoundText, SpellsBounds};

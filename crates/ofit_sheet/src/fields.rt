@@ -1,4 +1,4 @@
-ghost use Rattle.std.specs.Prelude.{◌≡◌, ◌≢◌, ◌∷◌, ◌↔◌, [], MatchOption, length, List, ℕ};
+ghost use Rattle.std.specs.Prelude.{◌≡◌, ◌≢◌, ◌∷◌, [], MatchOption, length};
 ghost use Rattle.csv.specs.Records.{fields_of};
 ghost use Rattle.ofit_sheet.specs.declared.fields.Kind.{Kind as TheKind};
 ghost use Rattle.ofit_sheet.specs.Spelling.{kind_name};

@@ -1,4 +1,4 @@
-ghost use Rattle.std.specs.Prelude.{◌≡◌, ℕ, List, Bool, MatchOption};
+ghost use Rattle.std.specs.Prelude.{◌≡◌, Bool, MatchOption};
 ghost use Rattle.csv.specs.Records.{fields_of};
 ghost use Rattle.ofit_sheet.specs.declared.header.Header.{Header as TheHeader};
 ghost use Rattle.ofit_sheet.specs.Spelling.{version_of, IsHeader};

@@ -1,4 +1,4 @@
-ghost use Rattle.std.specs.Prelude.{◌≡◌, ◌↔◌, ◌≤◌, ◌≤ℤ◌, ◌^◌, ◌∷◌, ℕ, ℤ, List, MatchOption, pos, IsTrue, unsigned_abs};
+ghost use Rattle.std.specs.Prelude.{◌≡◌, ◌↔◌, ◌≤◌, ◌≤ℤ◌, ◌^◌, ◌∷◌, ℕ, ℤ, List, MatchOption, IsTrue, unsigned_abs};
 ghost use Rattle.ofit_num.specs.NumberText.{IsWhole, IsSigned};
 ghost use Rattle.ofit_sheet.specs.Reading.{IsReading, both_of};
 

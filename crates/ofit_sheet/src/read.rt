@@ -1,4 +1,4 @@
-ghost use Rattle.std.specs.Prelude.{◌≡◌, ◌↔◌, ◌∷◌, ◌+◌, ◌≤◌, ◌<◌, ◌^◌, [], ℕ, List, IfOk, length};
+ghost use Rattle.std.specs.Prelude.{◌≡◌, ◌+◌, ◌≤◌, ◌<◌, ◌^◌, ℕ, List, IfOk, length};
 ghost use Rattle.csv.specs.Records.{fields_of};
 ghost use Rattle.ofit_num.specs.declared.limits.TheConstants.{LONGEST_FILE};
 ghost use Rattle.ofit_num.specs.Sheet.{FitsCount};
@@ -6,7 +6,7 @@ ghost use Rattle.ofit_records.specs.Records.{records_of};
 ghost use Rattle.ofit_study.specs.Study.{names_of};
 ghost use Rattle.ofit_sheet.specs.declared.item.Item.{Item as TheItem};
 ghost use Rattle.ofit_study.specs.Settings.{InLimits};
-ghost use Rattle.ofit_sheet.specs.Kept.{ArePartsOfSheet};
+ghost use Rattle.ofit_sheet.specs.Made.{ArePartsOfSheet};
 ghost use Rattle.ofit_sheet.specs.Parts.{sheet_of};
 ghost use Rattle.ofit_sheet.specs.SheetRead.{SheetRead, settings_of};
 ghost use Rattle.ofit_sheet.specs.Steps.{Follows, HeaderRead, RowRead, RestRead};
@@ -137,7 +137,7 @@ fn read_records(
 }
 
 /// The sheet that bytes of either version spell, for the study that names the groups, or their first
-/// fault. Expected time linear in the bytes, and memory linear in the sheet.
+/// fault. Expected time linear in the bytes, and memory linear in the sheet and its longest record.
 pub fn read_sheet(alloc: Global, bytes: &[u8], study: &Study) -> Result<Sheet, SheetFault>
     requires { length bytes.now ≤ LONGEST_FILE }
     ensures read { SheetRead (names_of study.now) (records_of bytes.now) result }

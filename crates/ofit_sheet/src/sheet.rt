@@ -1,7 +1,8 @@
-ghost use Rattle.std.specs.Prelude.{◌≡◌, ◌↔◌, ◌<◌, ◌≤◌, ◌^◌, ℕ, pos, ◌≤ℤ◌, IsTrue, length, All, AllPairs, Some, IsSome, IfSome, slice_get, option_map, vec_len};
+ghost use Rattle.std.specs.Prelude.{◌≡◌, ◌↔◌, ◌<◌, ◌≤◌, ◌^◌, pos, ◌≤ℤ◌, IsTrue, length, All, AllPairs, Some, IsSome, IfSome, slice_get, option_map, vec_len};
 ghost use Rattle.ofit_num.specs.Sheet.{FitsCount};
 ghost use Rattle.ofit_study.specs.Settings.{InLimits};
-ghost use Rattle.ofit_sheet.specs.Kept.{IsKept, IsFractionInLimits, ArePartsOfSheet, most_amount};
+ghost use Rattle.ofit_sheet.specs.Kept.{IsKept, IsFractionInLimits, most_amount};
+ghost use Rattle.ofit_sheet.specs.Made.{ArePartsOfSheet};
 ghost use Rattle.ofit_sheet.specs.Parts.{size_of, entry_of, flow_of, sheet_of};
 
 use crate::size::{Size, is_size_in_limits};
@@ -22,7 +23,7 @@ pub struct Sheet {
 impl Model for Sheet {
     ghost use Rattle.ofit_num.specs.Sheet.{Sheet as Printed};
     ghost use Rattle.ofit_study.specs.declared.settings.Settings.{Settings};
-    ghost use Rattle.ofit_sheet.specs.Kept.{HasParts};
+    ghost use Rattle.ofit_sheet.specs.Made.{HasParts};
     ghost use Rattle.ofit_sheet.specs.Parts.{sheet_of};
 
     ghost Value = { Printed Settings };

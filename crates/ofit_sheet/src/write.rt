@@ -1,5 +1,4 @@
-ghost use Rattle.std.specs.Prelude.{◌≡◌, ◌<◌, ◌++◌, ◌∷◌, [], IfOk, OnOk, Some, length, map, decimal};
-ghost use Rattle.std.specs.Fmt.{signed_decimal};
+ghost use Rattle.std.specs.Prelude.{◌≡◌, ◌<◌, ◌++◌, IfOk, OnOk, Some, length, map};
 ghost use Rattle.ofit_num.specs.Sheet.{FitsCount};
 ghost use Rattle.ofit_records.specs.Written.{record_text, records_text};
 ghost use Rattle.ofit_study.specs.Study.{names_of};

@@ -10,7 +10,7 @@ use Rattle.std.specs.Prelude.{All}
 use Rattle.ofit_num.specs.Fraction.{Fraction}
 use Rattle.ofit_num.specs.Groups.{RowLists}
 use Rattle.ofit_num.specs.Pairs.{chain_pairs}
-use Rattle.ofit_num.specs.Problem.{HasPlaces}
+use Rattle.ofit_num.specs.ProblemPairs.{HasPlaces}
 use Rattle.ofit_num.specs.Tight.{is_tight, tight_among}
 use Rattle.ofit_chain.proofs.Runs.{each_pair}
 use Rattle.ofit_cut.specs.Sets.{AreWithin}

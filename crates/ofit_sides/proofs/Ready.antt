@@ -11,7 +11,7 @@ use Rattle.ofit_num.specs.Groups.{RowLists}
 use Rattle.ofit_num.specs.Limits.{total_weight, all_rows}
 use Rattle.ofit_num.specs.Loss.{median}
 use Rattle.ofit_num.specs.Pairs.{chain_pairs}
-use Rattle.ofit_num.specs.Problem.{no_bounds}
+use Rattle.ofit_num.specs.Unbounded.{no_bounds}
 use Rattle.ofit_num.specs.Tight.{value_at as own, tight_among}
 use Rattle.ofit_cut.specs.declared.span.Span.{Span}
 use Rattle.ofit_cut.specs.Balance.{AreBalanced, balance}

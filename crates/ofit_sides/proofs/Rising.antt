@@ -12,7 +12,7 @@ use Rattle.ofit_num.specs.Fraction.{Fraction}
 use Rattle.ofit_num.specs.Groups.{RowLists}
 use Rattle.ofit_num.specs.Loss.{median}
 use Rattle.ofit_num.specs.Pairs.{chain_pairs}
-use Rattle.ofit_num.specs.Problem.{no_bounds}
+use Rattle.ofit_num.specs.Unbounded.{no_bounds}
 use Rattle.ofit_num.specs.Span.{InOpenSpan}
 use Rattle.ofit_num.specs.Tight.{value_at as own, is_tight, tight_among}
 use Rattle.ofit_num.specs.Trial.{value_of}

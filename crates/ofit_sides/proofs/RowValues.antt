@@ -10,7 +10,7 @@ use Rattle.ofit_num.specs.Sets.{set_sum, IsClosedUp, IsClosedDown}
 use Rattle.ofit_num.specs.Settled.{IsLeastSettled, CanRise, CanFall}
 use Rattle.ofit_num.specs.Span.{is_at}
 use Rattle.ofit_num.specs.Trial.{Trial}
-use Rattle.ofit_sheet.specs.Unimodal.{HasNoBounds}
+use Rattle.ofit_sheet.specs.Unbounded.{HasNoBounds}
 use Rattle.ofit_sides.specs.Values.{IsRowValue}
 
 abbrev once : Factors

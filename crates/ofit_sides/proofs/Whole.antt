@@ -6,7 +6,7 @@ use Rattle.std.specs.Int.{w64}
 use Rattle.std.proofs.lemmas.Int.{ints}
 use Rattle.std.specs.Prelude.{ℤ, pos, ◌*ℤ◌, slice_get, unsigned_abs}
 use Rattle.ofit_num.specs.Fraction.{Fraction, IsLowest}
-use Rattle.ofit_num.specs.Limits.{IsRowWithinLimits}
+use Rattle.ofit_num.specs.RowLimits.{IsRowWithinLimits}
 use Rattle.ofit_num.specs.Trial.{trial_of}
 use Rattle.ofit_num.proofs.Coprime.{same_lowest}
 use Rattle.ofit_num.proofs.Gap.{is_gap, gap-same, gap-mul, pos-gap}

@@ -1,5 +1,6 @@
 -- The fit of the chain of the first groups of a list, as many as there are values.
-use Rattle.std.specs.Prelude.{◌≡◌, ◌≤◌, ◌^◌, ℕ, ℤ, List, [], All, length, map, take, slice_get, unwrap_or, unsigned_abs}
+use Rattle.std.specs.Prelude.{◌≡◌, ◌≤◌, ℕ, ℤ, List, [], All, length, map, take, slice_get, unwrap_or, unsigned_abs}
+use Rattle.ofit_num.specs.declared.limits.TheConstants.{MOST_UNITS}
 use Rattle.ofit_num.specs.declared.row.Row.{Row}
 use Rattle.ofit_num.specs.Fit.{BestValues}
 use Rattle.ofit_num.specs.Fraction.{Fraction}
@@ -29,4 +30,4 @@ pub record IsFirstFit (groups : RowLists) (values : List Fraction) : Type 0 wher
 pub record AreWhole (values : List Fraction) : Type 0 where
   pub whole : List ℤ
   pub same : values ≡ map whole_fraction whole
-  pub small : All (λ z. unsigned_abs z ≤ 10 ^ 9) whole
+  pub small : All (λ z. unsigned_abs z ≤ MOST_UNITS) whole

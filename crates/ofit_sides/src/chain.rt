@@ -1,4 +1,5 @@
 ghost use Rattle.std.specs.Prelude.{◌≡◌, ◌≤◌, ◌<◌, IfOk, length};
+ghost use Rattle.ofit_sheet.specs.declared.peaked.limits.TheConstants.{MOST_PEAK_GROUPS};
 ghost use Rattle.ofit_num.specs.Limits.{all_rows};
 ghost use Rattle.ofit_num.specs.Loss.{median};
 ghost use Rattle.ofit_num.specs.Pairs.{chain_pairs};
@@ -6,7 +7,7 @@ ghost use Rattle.ofit_num.specs.Tight.{is_tight, tight_among};
 ghost use Rattle.ofit_loss.specs.Rows.{AreFittable};
 ghost use Rattle.ofit_cert.specs.OpenSpans.{AreOpenSpans, open_span};
 ghost use Rattle.ofit_cert.specs.TightFlows.{Certify, TellsOfGroups};
-ghost use Rattle.ofit_num.specs.Problem.{no_bounds};
+ghost use Rattle.ofit_num.specs.Unbounded.{no_bounds};
 ghost use Rattle.ofit_sides.specs.FirstFit.{rows_at, first_chain, IsFirstFit, AreWhole};
 
 use ofit_cut::{Amounts, Balanced, Span, balance_flow};
@@ -30,7 +31,7 @@ pub(crate) fn tight_neighbours(
     alloc: Global,
     values: &[Frac],
 ) -> Result<Vec<(u32, u32)>, AllocError>
-    requires { length values.now ≤ 200 }
+    requires { length values.now ≤ MOST_PEAK_GROUPS }
     ensures { IfOk result (λ pairs. pairs.items ≡ tight_among values.now (chain_pairs (length values.now))) }
 {
     let mut pairs = Vec::new(alloc);
@@ -59,7 +60,7 @@ fn span_at(groups: &Groups, place: u32, value: &Frac) -> Span
 
 /// The balances at which the first groups' values are optimal for their rows.
 fn spans_of(alloc: Global, groups: &Groups, values: &[Frac]) -> Result<Vec<Span>, AllocError>
-    requires few { length values.now ≤ 200 }
+    requires few { length values.now ≤ MOST_PEAK_GROUPS }
     requires inside { length values.now ≤ length groups.now }
     requires fittable { AreFittable (all_rows groups.now) }
     ensures { IfOk result (λ spans. AreOpenSpans median (first_chain groups.now (length values.now)) values.now spans.items) }
@@ -78,7 +79,7 @@ fn balance_of(
     values: &[Frac],
     pairs: &[(u32, u32)],
 ) -> Result<Balanced, AllocError>
-    requires few { length values.now ≤ 200 }
+    requires few { length values.now ≤ MOST_PEAK_GROUPS }
     requires inside { length values.now ≤ length groups.now }
     requires fittable { AreFittable (all_rows groups.now) }
     requires whole { AreWhole values.now }
@@ -97,7 +98,7 @@ pub(crate) fn certifying_amounts(
     values: &[Frac],
     pairs: &[(u32, u32)],
 ) -> Result<Amounts, AllocError>
-    requires few { length values.now ≤ 200 }
+    requires few { length values.now ≤ MOST_PEAK_GROUPS }
     requires fittable { AreFittable (all_rows groups.now) }
     requires fit { IsFirstFit groups.now values.now }
     requires whole { AreWhole values.now }

@@ -5,8 +5,8 @@ use ofit_num::Groups;
 use ofit_study::Study;
 use std::alloc::{AllocError, Global};
 
-/// The rows of the study's groups, in their order.
-pub(crate) fn groups_in_order(alloc: Global, study: &Study) -> Result<Groups, AllocError>
+/// The rows of the study's groups, in their order. Linear time and memory.
+pub fn groups_in_order(alloc: Global, study: &Study) -> Result<Groups, AllocError>
     ensures { IfOk result (λ groups. groups ≡ groups_of study.now) }
 {
     let mut groups = Groups::new(alloc);

@@ -3,7 +3,7 @@ ghost use Rattle.ofit_num.specs.Loss.{median};
 ghost use Rattle.ofit_num.specs.Problem.{Problem};
 ghost use Rattle.ofit_num.specs.Settled.{IsLeastSettled};
 ghost use Rattle.ofit_num.specs.Trial.{Trial};
-ghost use Rattle.ofit_sheet.specs.Unimodal.{HasNoBounds};
+ghost use Rattle.ofit_sheet.specs.Unbounded.{HasNoBounds};
 ghost use Rattle.ofit_sides.specs.Values.{IsRowValue};
 
 /// Where no group has a bound, each value of a least settled trial under the median is the value of a

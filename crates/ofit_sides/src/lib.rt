@@ -14,6 +14,7 @@ mod steps;
 mod turn;
 mod values;
 
+pub use groups::groups_in_order;
 pub use laws::least_medians_are_row_values;
 pub use sides::{falls_of, rises_of};
 pub use values::whole_values;

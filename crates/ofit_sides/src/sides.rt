@@ -1,7 +1,6 @@
-ghost use Rattle.std.specs.Prelude.{◌≡◌, ◌≤◌, ◌<◌, All, IfOk, length};
+ghost use Rattle.std.specs.Prelude.{◌≤◌, ◌<◌, All, IfOk, length};
+ghost use Rattle.ofit_sheet.specs.declared.peaked.limits.TheConstants.{MOST_PEAK_GROUPS};
 ghost use Rattle.ofit_num.specs.Limits.{all_rows};
-ghost use Rattle.ofit_num.specs.Problem.{problem_of, no_bounds};
-ghost use Rattle.ofit_num.specs.Pairs.{chain_pairs};
 ghost use Rattle.ofit_loss.specs.Rows.{AreFittable};
 ghost use Rattle.ofit_study.specs.Study.{names_of, problem_stated};
 ghost use Rattle.ofit_chain.specs.Chain.{chain_problem};
@@ -19,7 +18,7 @@ use std::alloc::{AllocError, Global};
 
 /// The rises of all first groups, by one stack of the chain's fit.
 fn rises_along(alloc: Global, groups: &Groups) -> Result<Vec<Side>, AllocError>
-    requires few { length groups.now ≤ 200 }
+    requires few { length groups.now ≤ MOST_PEAK_GROUPS }
     requires filled { All (λ rows. 0 < length rows) groups.now }
     requires fittable { AreFittable (all_rows groups.now) }
     ensures { IfOk result (λ sides. AreRises (chain_problem groups.now) sides.items) }
@@ -41,7 +40,7 @@ fn rises_along(alloc: Global, groups: &Groups) -> Result<Vec<Side>, AllocError>
 /// group after another, and the amounts are flows along neighbours of one value (Hoffman, 1960). For n
 /// groups it takes the time of a chain fit and n times that of the rows.
 pub fn rises_of(alloc: Global, study: &Study) -> Result<Vec<Side>, AllocError>
-    requires few { length (names_of study.now) ≤ 200 }
+    requires few { length (names_of study.now) ≤ MOST_PEAK_GROUPS }
     ensures rises { IfOk result (λ sides. AreRises (problem_stated study.now) sides.items) }
 {
     study.keeps_limits();
@@ -53,7 +52,7 @@ pub fn rises_of(alloc: Global, study: &Study) -> Result<Vec<Side>, AllocError>
 /// values that fall, with amounts that certify it. Bounds and pairs aren't read. These are the rises of
 /// the groups in reverse, each read from its other end, and take as long.
 pub fn falls_of(alloc: Global, study: &Study) -> Result<Vec<Side>, AllocError>
-    requires few { length (names_of study.now) ≤ 200 }
+    requires few { length (names_of study.now) ≤ MOST_PEAK_GROUPS }
     ensures falls { IfOk result (λ sides. AreFalls (problem_stated study.now) sides.items) }
 {
     study.keeps_limits();

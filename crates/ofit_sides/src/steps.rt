@@ -1,4 +1,5 @@
-ghost use Rattle.std.specs.Prelude.{◌≡◌, ◌≤◌, IfOk, length, vec_len};
+ghost use Rattle.std.specs.Prelude.{◌≡◌, ◌≤◌, IfOk, length};
+ghost use Rattle.ofit_sheet.specs.declared.peaked.limits.TheConstants.{MOST_PEAK_GROUPS};
 ghost use Rattle.std.specs.List.{zip};
 ghost use Rattle.ofit_num.specs.Limits.{all_rows};
 ghost use Rattle.ofit_loss.specs.Rows.{AreFittable};
@@ -24,8 +25,8 @@ fn leaving_of(
     requires within { AreWithin pairs.now count }
     requires rising { RiseByLow pairs.now }
     requires counted { length amounts.now ≡ length pairs.now }
-    requires few { count ≤ 200 }
-    requires few_pairs { length pairs.now ≤ 200 }
+    requires few { count ≤ MOST_PEAK_GROUPS }
+    requires few_pairs { length pairs.now ≤ MOST_PEAK_GROUPS }
     ensures { IfOk result (λ flows. AreLeaving count pairs.now amounts.now flows.items) }
 {
     let mut flows = vec![in alloc; 0i128; count]?;
@@ -50,7 +51,7 @@ fn steps_of(alloc: Global, values: &[i64], amounts: &[i128]) -> Result<Vec<(i64,
 /// The rise of the first groups at their chain's values. The amount of a step is what flows along the
 /// pair to the next group, where the two have one value.
 pub(crate) fn rise_of(alloc: Global, groups: &Groups, values: &[Frac]) -> Result<Side, AllocError>
-    requires few { length values.now ≤ 200 }
+    requires few { length values.now ≤ MOST_PEAK_GROUPS }
     requires fittable { AreFittable (all_rows groups.now) }
     requires fit { IsFirstFit groups.now values.now }
     ensures { IfOk result (λ side. IsRise (rows_at groups.now) (length values.now) side) }

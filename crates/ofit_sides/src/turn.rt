@@ -1,4 +1,4 @@
-ghost use Rattle.std.specs.Prelude.{◌≡◌, ◌≤◌, ◌<◌, IfOk, length};
+ghost use Rattle.std.specs.Prelude.{◌≡◌, ◌<◌, IfOk, length};
 ghost use Rattle.ofit_sheet.specs.PeakVerdict.{amount_before};
 ghost use Rattle.ofit_sides.specs.Turned.{IsTurned};
 

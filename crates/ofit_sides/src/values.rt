@@ -1,4 +1,5 @@
-ghost use Rattle.std.specs.Prelude.{◌≡◌, ◌≤◌, ◌^◌, All, IfOk, map, unsigned_abs};
+ghost use Rattle.std.specs.Prelude.{◌≡◌, ◌≤◌, All, IfOk, map, unsigned_abs};
+ghost use Rattle.ofit_num.specs.declared.limits.TheConstants.{MOST_UNITS};
 ghost use Rattle.ofit_sides.specs.Values.{whole_fraction, IsOfRow, IsLeastFit};
 
 use ofit_num::Frac;
@@ -8,7 +9,7 @@ use std::alloc::{AllocError, Global};
 fn whole_value(value: &Frac) -> i64
     requires { IsOfRow value.now }
     ensures same { value.now ≡ whole_fraction result }
-    ensures small { unsigned_abs result ≤ 10 ^ 9 }
+    ensures small { unsigned_abs result ≤ MOST_UNITS }
 {
     let _den = value.den();
     value.num() as i64
@@ -19,7 +20,7 @@ fn whole_value(value: &Frac) -> i64
 pub fn whole_values(alloc: Global, values: &[Frac]) -> Result<Vec<i64>, AllocError>
     requires { IsLeastFit values.now }
     ensures whole { IfOk result (λ whole. values.now ≡ map whole_fraction whole.items) }
-    ensures small { IfOk result (λ whole. All (λ z. unsigned_abs z ≤ 10 ^ 9) whole.items) }
+    ensures small { IfOk result (λ whole. All (λ z. unsigned_abs z ≤ MOST_UNITS) whole.items) }
 {
     let mut whole = Vec::new(alloc);
     for value in values {

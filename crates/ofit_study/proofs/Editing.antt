@@ -79,7 +79,7 @@ named-append xs ys name =
     ap (map plain_row) (filter-append (λ o. is_same_name name o.group) xs ys)
     ∙ map-append plain_row (filter (λ o. is_same_name name o.group) xs) (filter (λ o. is_same_name name o.group) ys)
 
-named-cons : (r : Observation) (rows : List Observation) (name : List ℕ) → rows_named (r ∷ rows) name ≡ cond (is_same_name name r.group) (plain_row r ∷ rows_named rows name) (rows_named rows name)
+pub named-cons : (r : Observation) (rows : List Observation) (name : List ℕ) → rows_named (r ∷ rows) name ≡ cond (is_same_name name r.group) (plain_row r ∷ rows_named rows name) (rows_named rows name)
 named-cons r rows name = go (is_same_name name r.group) where
   go : (t : Bool) → map plain_row (cond t (r ∷ filter (λ o. is_same_name name o.group) rows) (filter (λ o. is_same_name name o.group) rows)) ≡ cond t (plain_row r ∷ rows_named rows name) (rows_named rows name)
   go true = refl

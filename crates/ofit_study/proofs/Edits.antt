@@ -1,15 +1,17 @@
 -- What each edit gives.
-use Rattle.std.proofs.Common.{◌≡◌, ◌≢◌, ℕ, ◌+◌, ◌<◌, ◌≤◌, ◌^◌, List, [], ◌∷◌, ◌++◌, refl, sym, ap, ap₂, ◌∙◌, subst, arith, length, take, drop}
+use Rattle.std.proofs.Common.{◌≡◌, ◌≢◌, ℕ, ◌+◌, ◌<◌, ◌≤◌, ◌^◌, List, [], ◌∷◌, ◌++◌, refl, sym, ap, ap₂, ◌∙◌, subst, arith, length, take, drop, get_or}
 use Rattle.std.proofs.lemmas.List.{take-append-drop, take_all, drop_all, drop_more}
 use Rattle.std.proofs.lemmas.List.Elements.{All-contains}
 use Rattle.std.proofs.lemmas.List.Sums.{sum_by-cons, sum_by-append}
-use Rattle.std.proofs.lemmas.Option.{slice_get_within, get_or_from_slice_get}
-use Rattle.std.specs.Prelude.{Contains, ℤ, unsigned_abs, slice_get, Some, Ok}
+use Rattle.std.proofs.lemmas.Option.{slice_get_within, slice_get-get_or, get_or_from_slice_get}
+use Rattle.std.specs.Prelude.{pos, Contains, ℤ, unsigned_abs, slice_get, Some, Ok}
 use Rattle.ofit_study.specs.declared.edit.Edit.TheVariants.{Add}
 use Rattle.ofit_study.specs.declared.fault.AddFault.{AddFault}
 use Rattle.ofit_study.specs.declared.fault.AddFault.TheVariants as add
-use Rattle.ofit_study.specs.Adding.{IsTaken, IsRefused, IsFirstGap}
-use Rattle.ofit_study.specs.Edited.{Edited, HasRow, IsRefusal, as_edit_fault, with_value, with_weight, weight_with}
+use Rattle.ofit_study.specs.Adding.{IsTaken, IsRefused}
+use Rattle.ofit_study.specs.Added.{IsFirstGap}
+use Rattle.ofit_study.specs.Edited.{Edited, HasRow, IsRefusal, with_value, with_weight, weight_with}
+use Rattle.ofit_study.specs.EditLimits.{as_edit_fault}
 use Rattle.ofit_study.specs.Name.{IsName}
 use Rattle.ofit_study.specs.Splice.{IsRowAt}
 use Rattle.ofit_study.specs.Study.{Observation, Study, GainsRow, IsObservation, IsValid, total_weight, most_rows}
@@ -28,6 +30,12 @@ row_of s index number r e n = record { lower = take index s.rows; row = r; highe
 
 pub its_number : (s : Study) (index number : ℕ) (r : Observation) → IsRowAt s index number → slice_get s.rows index ≡ Some r → r.number ≡ number
 its_number s index number r at e = ap (λ (x : Observation). x.number) (sym (get_or_from_slice_get s.rows index r r e)) ∙ at.is r
+
+-- the row at the index that has the number
+pub row_here_of : (s : Study) (index number : ℕ) → IsRowAt s index number → HasRow s number
+row_here_of s index number h =
+    let d : Observation = record { number = 0; group = []; value = pos 0; weight = 0 } in
+    row_of s index number (get_or s.rows index d) (slice_get-get_or s.rows index d h.inside) (h.is d)
 
 -- a row more
 pub added_refusal : (s : Study) (group : List ℕ) (value : ℤ) (weight : ℕ) (fault : AddFault) → IsRefused s group weight fault → fault ≢ add.Memory → IsRefusal s (Add group value weight) (as_edit_fault fault)

@@ -1,15 +1,16 @@
 -- The least number that no row has.
-use Rattle.std.proofs.Common.{◌≡◌, ◌≢◌, ℕ, zero, suc, ◌+◌, ◌-◌, ◌<◌, ◌≤◌, ◌⊎◌, inl, inr, List, [], ◌∷◌, ◌++◌, refl, sym, ap, ◌∙◌, subst, arith, length, get_or, take, drop}
+use Rattle.std.proofs.Common.{◌≡◌, ◌≢◌, ℕ, ◌+◌, ◌-◌, ◌<◌, ◌≤◌, ◌⊎◌, inl, inr, List, [], ◌∷◌, ◌++◌, refl, sym, ap, ◌∙◌, subst, arith, length, get_or, take, drop}
 use Rattle.std.proofs.lemmas.Bool.{cases_order}
 use Rattle.std.proofs.lemmas.List.{length-map, length-drop, length-take-le, get_or-map, get_or-take, get_or-drop, take-append-drop}
-use Rattle.std.specs.Prelude.{pos, All, AllPairs, Contains, map, Option, None, Some, MatchOption}
+use Rattle.std.specs.Prelude.{pos, All, Contains, map, Option, None, Some, MatchOption}
 use Rattle.ofit_study.specs.Study.{Observation, Study, IsValid, IsFreeNumber, GainsRow}
 use Rattle.ofit_study.specs.declared.entry.Entry.{Entry}
 use Rattle.ofit_study.specs.declared.settings.Settings.{Settings}
-use Rattle.ofit_study.specs.Adding.{IsFirstGap}
+use Rattle.ofit_study.specs.Added.{IsFirstGap}
 use Rattle.ofit_study.specs.Edited.{HasRow}
 use Rattle.ofit_study.specs.Kept.{made_of, observed}
 use Rattle.ofit_study.specs.Splice.{IsEntryAt, IsGapAmong, IsRowAt}
+use Rattle.ofit_study.proofs.Bisecting.{spread}
 use Rattle.ofit_study.proofs.Editing.{parts_mid}
 
 abbrev pub numbers : List Observation → List ℕ
@@ -18,30 +19,15 @@ numbers rows = map (λ r. r.number) rows
 pub number_at : (rows : List Observation) (k : ℕ) (d : Observation) → k < length rows → get_or (numbers rows) k 0 ≡ (get_or rows k d).number
 number_at rows k d l = get_or-map (λ (r : Observation). r.number) rows k d 0 l
 
--- numbers that rise, by at least one a row
-spread : (rows : List Observation) → AllPairs (λ a b. a.number < b.number) rows → (d : Observation) (i j k : ℕ) → j ≡ i + k → j < length rows → (get_or rows i d).number + k ≤ (get_or rows j d).number
-spread rows h d i j zero e l =
-    let same : i ≡ j = omega arith in
-    subst (λ (n : ℕ). (get_or rows i d).number + 0 ≤ (get_or rows n d).number) same (omega arith)
-spread rows h d i j (suc k) e l = omega (arith, spread rows h d i (j - 1) k (omega arith) (omega arith), h (j - 1) j d (omega arith) (omega arith))
-
 module _ (s : Study) (v : IsValid s) where
   least_at : (k : ℕ) (d : Observation) → k < length s.rows → k + 1 ≤ (get_or s.rows k d).number
-  least_at k d l = omega (arith, spread s.rows v.rising d 0 k k (omega arith) l, (v.each 0 d (omega arith)).least_number)
+  least_at k d l = omega (arith, spread (λ (r : Observation). r.number) s.rows v.rising d 0 k k (omega arith) l, (v.each 0 d (omega arith)).least_number)
 
   counted : length (numbers s.rows) ≡ length s.rows
   counted = length-map s.rows (λ (r : Observation). r.number)
 
   pub some : Observation
   some = record { number = 0; group = []; value = pos 0; weight = 0 }
-
-  -- where the last number is at most the count
-  pub gap_whole : (0 < length s.rows → (get_or s.rows (length s.rows - 1) some).number ≤ length s.rows) → IsFirstGap (numbers s.rows) (length s.rows)
-  gap_whole last = record {
-    inside = omega (arith, counted);
-    before = λ k l. number_at s.rows k some l ∙ omega (arith, last (omega arith), least_at k some l, spread s.rows v.rising some k (length s.rows - 1) (length s.rows - 1 - k) (omega arith) (omega arith));
-    behind = λ l. absurd (omega (arith, counted));
-  }
 
   -- where the number after the first ones is another
   pub gap_found : (place : ℕ) → place ≤ length s.rows → ((k : ℕ) (d : Observation) → k < place → (get_or s.rows k d).number ≡ k + 1) → ((d : Observation) → place < length s.rows → (get_or s.rows place d).number ≢ place + 1)
@@ -125,32 +111,14 @@ module _ (settings : Settings) (names : List (List ℕ)) (entries : List Entry) 
   no_entry = record { place = 0; row = record { number = 0; value = pos 0; weight = 0 } }
 
   pub gap_here : (s : Study) → made_of settings names entries pairs ≡ s → IsValid (made_of settings names entries pairs) → (place : ℕ) → IsGapAmong entries place → IsFirstGap (numbers s.rows) place
-  gap_here s is v place g = subst (λ (t : Study). IsFirstGap (numbers t.rows) place) is (go (cases_order place (length entries))) where
-    own : Study
-    own = made_of settings names entries pairs
-
-    counted_here : length (map (observed names) entries) ≡ length entries
-    counted_here = length-map entries (observed names)
-
-    found : place < length entries → IsFirstGap (numbers (map (observed names) entries)) place
-    found l =
-        gap_found (made_of settings names entries pairs) v place (omega (arith, counted_here))
-        (λ k d b. entry_number k d no_entry (omega arith) ∙ g.before k no_entry l b)
-        (λ d b e. g.at no_entry l (sym (entry_number place d no_entry l) ∙ e))
-
-    go : (place ≡ length entries) ⊎ ((place < length entries) ⊎ (length entries < place)) → IsFirstGap (numbers (map (observed names) entries)) place
-    go (inl e) =
-        subst (IsFirstGap (numbers (map (observed names) entries))) (counted_here ∙ sym e)
-        (gap_whole (made_of settings names entries pairs) v
-        (λ l. omega (
-          arith,
-          counted_here,
-          g.whole no_entry e (omega (arith, counted_here)),
-          entry_number (length entries - 1) (some (made_of settings names entries pairs) v) no_entry (omega (arith, counted_here)),
-          ap (λ (n : ℕ). (get_or (map (observed names) entries) (n - 1) (some (made_of settings names entries pairs) v)).number) counted_here,
-        )))
-    go (inr (inl l)) = found l
-    go (inr (inr l)) = absurd (omega (arith, g.inside))
+  gap_here s is v place g =
+      subst (λ (t : Study). IsFirstGap (numbers t.rows) place) is
+      (gap_found (made_of settings names entries pairs) v place (omega (arith, g.inside, counted_here))
+      (λ k d b. entry_number k d no_entry (omega (arith, g.inside)) ∙ g.before k no_entry b)
+      (λ d b e. g.at no_entry (omega (arith, counted_here)) (sym (entry_number place d no_entry (omega (arith, counted_here))) ∙ e)))
+    where
+      counted_here : length (map (observed names) entries) ≡ length entries
+      counted_here = length-map entries (observed names)
 
   pub row_here : (s : Study) → made_of settings names entries pairs ≡ s → (number : ℕ) (o : Option ℕ) → MatchOption o (All (λ e. e.row.number ≢ number) entries) (λ index. IsEntryAt entries index number)
       → MatchOption o (HasRow s number → ⊥) (λ index. IsRowAt s index number)

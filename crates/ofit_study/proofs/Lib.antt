@@ -1,3 +1,4 @@
+pub mod Bisecting
 pub mod Clones
 pub mod Editing
 pub mod Edits
@@ -18,3 +19,9 @@ mod PrintedNames
 pub mod LossTexts
 pub mod LossFactors
 pub mod FieldReads
+pub mod PairOrder
+pub mod Zips
+pub mod Respliced
+pub mod Exchanging
+pub mod Preparing
+pub mod Earlier

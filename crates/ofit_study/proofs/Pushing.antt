@@ -11,7 +11,7 @@ use Rattle.ofit_study.specs.declared.entry.Entry.{Entry}
 use Rattle.ofit_study.specs.declared.settings.Settings.{Settings}
 use Rattle.ofit_study.specs.Study.{Observation, IsValid, group_names, is_same_name, place_among, plain_row, rows_named, total_weight}
 use Rattle.ofit_study.specs.Kept.{AreKept, made_of, observed, named, name_at}
-use Rattle.ofit_study.specs.Adding.{observation, with_row}
+use Rattle.ofit_study.specs.Added.{observation, with_row}
 use Rattle.ofit_study.proofs.GroupNames.{is_same, is_other, group_names-push_known, group_names-push_new, group_names-distinct, group_names-each}
 
 -- lists by a function
@@ -24,7 +24,7 @@ pub slice_get-Contains : {X : Type 0} (xs : List X) (k : ℕ) (x : X) → slice_
 slice_get-Contains xs k x e = (k, slice_get_within xs k x e, get_or_from_slice_get xs k x x e)
 
 -- the function changes at one element alone
-map-changed : {X Y : Type 0} (f g : X → Y) (xs : List X) (p : ℕ) (x : X) → AllPairs (λ a b. a ≢ b) xs → slice_get xs p ≡ Some x → ((y : X) → y ≢ x → g y ≡ f y) → map g xs ≡ set (map f xs) p (g x)
+pub map-changed : {X Y : Type 0} (f g : X → Y) (xs : List X) (p : ℕ) (x : X) → AllPairs (λ a b. a ≢ b) xs → slice_get xs p ≡ Some x → ((y : X) → y ≢ x → g y ≡ f y) → map g xs ≡ set (map f xs) p (g x)
 map-changed f g [] p x d e h = cc
 map-changed {X} {Y} f g (y ∷ xs) zero x d e h =
     let same : y ≡ x = same_Some y x e in

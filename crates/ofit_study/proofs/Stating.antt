@@ -7,9 +7,10 @@ use Rattle.std.specs.Prelude.{All, AllPairs, Contains, filter, map, sum_by, slic
 use Rattle.std.specs.declared.cmp.Ordering.TheVariants.{Less, Equal}
 use Rattle.ofit_num.specs.declared.row.Row.{Row}
 use Rattle.ofit_num.specs.Fit.{sum_below}
-use Rattle.ofit_num.specs.Limits.{IsRowWithinLimits, AreWithinLimits, all_rows}
+use Rattle.ofit_num.specs.Limits.{all_rows}
+use Rattle.ofit_num.specs.RowLimits.{IsRowWithinLimits, AreWithinLimits}
 use Rattle.ofit_num.specs.Loss.{row_sum}
-use Rattle.ofit_num.specs.Problem.{HasPlaces, HasDistinctPairs}
+use Rattle.ofit_num.specs.ProblemPairs.{HasPlaces, HasDistinctPairs}
 use Rattle.ofit_num.proofs.RowSums.{row_sum-sum_by}
 use Rattle.ofit_num.proofs.Sheets.{AllPairs-head, AllPairs-tail}
 use Rattle.ofit_study.specs.Study.{Observation, Study, IsValid, IsObservation, ComesBefore, names_of, groups_of, places_of, place_among, is_same_name, plain_row, rows_named, problem_stated, total_weight, most_rows}

@@ -32,7 +32,7 @@ none_named rows n h =
     ap (map plain_row) (filter-none (λ o. is_same_name n o.group) rows (All-weaker (λ o. n ≢ o.group) (λ o. is_same_name n o.group ≡ false) (λ o d. is_other n o.group d) rows h))
 
 -- rows of other groups are not among those of a name
-named_apart : (lower mid higher : List Observation) (n : List ℕ) → All (λ r. n ≢ r.group) mid → rows_named (lower ++ (mid ++ higher)) n ≡ rows_named lower n ++ rows_named higher n
+pub named_apart : (lower mid higher : List Observation) (n : List ℕ) → All (λ r. n ≢ r.group) mid → rows_named (lower ++ (mid ++ higher)) n ≡ rows_named lower n ++ rows_named higher n
 named_apart lower mid higher n h =
     named-append lower (mid ++ higher) n
     ∙ ap (λ (t : List Row). rows_named lower n ++ t) (named-append mid higher n ∙ ap (λ (t : List Row). t ++ rows_named higher n) (none_named mid n h))

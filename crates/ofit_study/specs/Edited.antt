@@ -1,13 +1,12 @@
 -- Edits of a study: the study after an edit, or the first reason why the edit is refused.
-use Rattle.std.specs.Prelude.{◌≡◌, ◌≢◌, ◌≤◌, ◌<◌, ◌++◌, ◌⊎◌, ◌↔◌, nat_eq, ℕ, ℤ, List, [], ◌∷◌, length, map, filter, unsigned_abs, All, AllPairs, Contains, Result, Ok, Err, ⊤}
-use Rattle.ofit_num.specs.declared.limits.TheConstants.{MOST_UNITS, MOST_WEIGHT}
+use Rattle.std.specs.Prelude.{◌≡◌, ◌≢◌, ◌≤◌, ◌<◌, ◌++◌, ◌⊎◌, ◌↔◌, nat_eq, ℕ, ℤ, List, [], ◌∷◌, length, map, filter, All, AllPairs, Contains, Result, Ok, Err}
+use Rattle.ofit_num.specs.declared.limits.TheConstants.{MOST_WEIGHT}
 use Rattle.ofit_study.specs.declared.edit.Edit.{Edit}
 use Rattle.ofit_study.specs.declared.edit.Edit.TheVariants.{Add, Remove, Value, Weight, Relate, Unrelate}
 use Rattle.ofit_study.specs.declared.edit.End.TheVariants.{Low, High}
-use Rattle.ofit_study.specs.declared.fault.AddFault.{AddFault}
 use Rattle.ofit_study.specs.declared.fault.AddFault.TheVariants as add
 use Rattle.ofit_study.specs.declared.fault.EditFault.{EditFault}
-use Rattle.ofit_study.specs.declared.fault.EditFault.TheVariants.{TooManyRows, TooHeavy, TooManyGroups, NoRow, GroupInUse, NoGroup, PairPresent, PairAbsent, TooManyPairs, Memory}
+use Rattle.ofit_study.specs.declared.fault.EditFault.TheVariants.{TooManyRows, TooHeavy, TooManyGroups, NoRow, GroupInUse, NoGroup, PairPresent, PairAbsent, TooManyPairs}
 use Rattle.ofit_study.specs.Adding.{IsTaken, IsRefused}
 use Rattle.ofit_study.specs.Study.{Observation, Study, GainsRow, ComesBefore, names_of, rows_named, total_weight, most_pairs}
 
@@ -84,13 +83,6 @@ IsRefusal s (Relate low high) TooManyPairs = Contains (names_of s) low × Contai
 IsRefusal s (Unrelate low high) PairAbsent = Contains s.pairs (low, high) → ⊥
 IsRefusal s edit fault = ⊥
 
--- why an edit that adds a row is refused
-abbrev pub as_edit_fault : AddFault → EditFault
-as_edit_fault add.TooManyRows = TooManyRows
-as_edit_fault add.TooHeavy = TooHeavy
-as_edit_fault add.TooManyGroups = TooManyGroups
-as_edit_fault add.Memory = Memory
-
 -- what an edit of a study gives
 abbrev pub Edited : Study → Edit → Result Study EditFault → Type 0
 Edited s edit (Ok after) = IsAccepted s edit × IsAfter s edit after
@@ -108,12 +100,3 @@ touched s (Value number value) = groups_numbered s number
 touched s (Weight number weight) = groups_numbered s number
 touched s (Relate low high) = low ∷ high ∷ []
 touched s (Unrelate low high) = low ∷ high ∷ []
-
--- the value and the weight of an edit are within the limits
-abbrev pub IsEditInLimits : Edit → Type 0
-IsEditInLimits (Add group value weight) = (unsigned_abs value ≤ MOST_UNITS) × (1 ≤ weight) × (weight ≤ MOST_WEIGHT)
-IsEditInLimits (Remove number) = ⊤
-IsEditInLimits (Value number value) = unsigned_abs value ≤ MOST_UNITS
-IsEditInLimits (Weight number weight) = (1 ≤ weight) × (weight ≤ MOST_WEIGHT)
-IsEditInLimits (Relate low high) = ⊤
-IsEditInLimits (Unrelate low high) = ⊤

@@ -1,11 +1,9 @@
 -- What a field with a value, a weight or a row's number is read as.
-use Rattle.std.specs.Prelude.{◌≤◌, ℕ, ℤ, pos, List, Result, Ok, Err}
+use Rattle.std.specs.Prelude.{◌≤◌, ℕ, ℤ, pos, List, Result, Ok}
 use Rattle.ofit_num.specs.declared.decimal.NumFault.{NumFault}
 use Rattle.ofit_num.specs.declared.limits.TheConstants.{MOST_UNITS, MOST_WEIGHT}
 use Rattle.ofit_num.specs.DecimalText.{UnitsRead}
 use Rattle.ofit_num.specs.NumberText.{IsWhole}
-use Rattle.ofit_study.specs.declared.field.BadWeight.{BadWeight}
-use Rattle.ofit_study.specs.declared.field.BadRow.{BadRow}
 
 -- a value in units of 10^(-places), at most 10^9 of them in absolute value, or the first of three faults
 abbrev pub ValueRead : ℕ → List ℕ → Result ℤ NumFault → Type 0
@@ -18,10 +16,6 @@ IsValue places text value = ValueRead places text (Ok value)
 abbrev pub IsWeight : List ℕ → ℕ → Type 0
 IsWeight text weight = UnitsRead text 0 MOST_WEIGHT (Ok (pos weight)) × (1 ≤ weight)
 
-abbrev pub WeightRead : List ℕ → Result ℕ BadWeight → Type 0
-WeightRead text (Ok weight) = IsWeight text weight
-WeightRead text (Err fault) = (weight : ℕ) → IsWeight text weight → ⊥
-
 -- the canonical text of a whole number from low to high
 pub record IsNumberIn (low high : ℕ) (text : List ℕ) (n : ℕ) : Type 0 where
   pub is_whole : IsWhole text n
@@ -31,7 +25,3 @@ pub record IsNumberIn (low high : ℕ) (text : List ℕ) (n : ℕ) : Type 0 wher
 -- the number of a row, which a study may have or not
 abbrev pub IsRowNumber : List ℕ → ℕ → Type 0
 IsRowNumber text n = IsNumberIn 1 4294967295 text n
-
-abbrev pub RowNumberRead : List ℕ → Result ℕ BadRow → Type 0
-RowNumberRead text (Ok n) = IsRowNumber text n
-RowNumberRead text (Err fault) = (n : ℕ) → IsRowNumber text n → ⊥

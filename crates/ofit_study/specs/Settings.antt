@@ -3,7 +3,7 @@ use Rattle.std.specs.Prelude.{◌≤◌, ℤ, unsigned_abs, Option, Some, None, 
 use Rattle.ofit_num.specs.declared.limits.TheConstants.{MOST_UNITS}
 use Rattle.ofit_study.specs.declared.settings.Settings.{Settings}
 use Rattle.ofit_study.specs.Loss.{IsListed}
-pub use Rattle.ofit_num.specs.Clipped.{AreOrdered as InOrder}
+pub use Rattle.ofit_num.specs.BoundOrder.{AreOrdered as InOrder}
 
 -- a bound in units, where one stands
 abbrev pub IsBoundInLimits : Option ℤ → Type 0

@@ -1,5 +1,6 @@
 -- Rows by their indexes.
-use Rattle.std.specs.Prelude.{◌≡◌, ◌≢◌, ◌≤◌, ◌<◌, ◌+◌, ◌-◌, ℕ, List, length, take, drop, slice_index_or}
+use Rattle.std.specs.Prelude.{◌≡◌, ◌≢◌, ◌≤◌, ◌<◌, ◌+◌, ◌-◌, ◌++◌, ℕ, List, length, take, drop, slice_index_or, All, AllPairs}
+use Rattle.ofit_num.specs.declared.row.Row.{Row}
 use Rattle.ofit_study.specs.declared.entry.Entry.{Entry}
 use Rattle.ofit_study.specs.Study.{Observation, Study}
 
@@ -12,12 +13,28 @@ pub record IsRowAt (s : Study) (index number : ℕ) : Type 0 where
   pub inside : index < length s.rows
   pub is : (d : Observation) → (slice_index_or s.rows index d).number ≡ number
 
--- so many of the entries, and not more, have the numbers from 1 on; where all seem to, the last number says so
+-- the numbers of the entries rise, from 1 on
+pub record RiseFromOne (entries : List Entry) : Type 0 where
+  pub least : All (λ e. 1 ≤ e.row.number) entries
+  pub rising : AllPairs (λ e f. e.row.number < f.row.number) entries
+
+-- so many of the entries, and not more, have the numbers from 1 on
 pub record IsGapAmong (entries : List Entry) (place : ℕ) : Type 0 where
   pub inside : place ≤ length entries
-  pub before : (k : ℕ) (d : Entry) → place < length entries → k < place → (slice_index_or entries k d).row.number ≡ k + 1
+  pub before : (k : ℕ) (d : Entry) → k < place → (slice_index_or entries k d).row.number ≡ k + 1
   pub at : (d : Entry) → place < length entries → (slice_index_or entries place d).row.number ≢ place + 1
-  pub whole : (d : Entry) → place ≡ length entries → 0 < length entries → (slice_index_or entries (length entries - 1) d).row.number ≤ length entries
+
+-- just the first so many of a list have numbers below this one
+pub record IsCut {X : Type 0} (number_of : X → ℕ) (list : List X) (number cut : ℕ) : Type 0 where
+  pub inside : cut ≤ length list
+  pub below : (k : ℕ) (d : X) → k < cut → number_of (slice_index_or list k d) < number
+  pub from : (k : ℕ) (d : X) → cut ≤ k → k < length list → number ≤ number_of (slice_index_or list k d)
+
+-- the rows with so many of those from the number on taken out, and others put in their place
+pub record IsSpliced (rows : List Row) (number taken : ℕ) (put made : List Row) : Type 0 where
+  pub cut : ℕ
+  pub is : IsCut (λ r. r.number) rows number cut
+  pub made_of : made ≡ take cut rows ++ (put ++ drop (cut + taken) rows)
 
 -- the entry at the index has the number
 pub record IsEntryAt (entries : List Entry) (index number : ℕ) : Type 0 where

@@ -120,7 +120,3 @@ pub record HasPairs (before : Study) (places : List (ℕ × ℕ)) (after : Study
   pub in_order : AllPairs ComesBefore after.pairs
   pub only : (e : ℕ × ℕ) → Contains places e ↔ Contains (places_of after) e
   pub known : All (λ e. Contains (names_of after) e.0 × Contains (names_of after) e.1) after.pairs
-
--- the study of no rows
-abbrev pub empty_study : Settings → Study
-empty_study settings = record { settings = settings; rows = []; pairs = [] }

@@ -4,9 +4,10 @@ use ofit_num::{MOST_GROUPS, MOST_ROWS, MOST_WEIGHT, Row};
 
 impl Study {
     ghost use Rattle.ofit_num.specs.declared.limits.TheConstants.{MOST_UNITS, MOST_WEIGHT};
-    ghost use Rattle.std.specs.Prelude.{◌≡◌, ◌≢◌, ◌≤◌, ◌<◌, ◌+◌, ◌-◌, ◌^◌, unsigned_abs, OnOk, OnErr, IfErr};
+    ghost use Rattle.std.specs.Prelude.{◌≡◌, ◌≢◌, ◌≤◌, ◌<◌, ◌+◌, ◌-◌, unsigned_abs, IfOk, OnOk, OnErr, IfErr};
     ghost use Rattle.ofit_study.specs.declared.fault.AddFault.TheVariants as add;
     ghost use Rattle.ofit_study.specs.Adding.{IsTaken, IsRefused};
+    ghost use Rattle.ofit_study.specs.Added.{IsPlaceOf};
     ghost use Rattle.ofit_study.specs.Name.{IsName};
     ghost use Rattle.ofit_study.specs.Study.{GainsRow};
 
@@ -26,9 +27,10 @@ impl Study {
         ensures refused { IfErr result (λ fault. IsRefused self.old name.now weight fault) }
         ensures unchanged { OnErr result (self.new ≡ self.old) }
     {
-        if let Err(fault) = self.check_row(name, weight) {
-            return Err(fault);
-        }
+        let place = match self.place_for(name, weight) {
+            Ok(place) => place,
+            Err(fault) => return Err(fault),
+        };
         let index = self.first_gap();
         let row = Row {
             number: index as u32 + 1,
@@ -36,7 +38,7 @@ impl Study {
             weight,
         };
         let added = if index == self.row_count() as usize {
-            self.push(name, row)
+            self.push_at(place, name, row)
         } else {
             self.insert(index, name, row)
         };
@@ -46,8 +48,10 @@ impl Study {
         }
     }
 
-    /// The first limit that keeps a row of this name and weight out.
-    pub(crate) fn check_row(&self, name: &[u8], weight: u64) -> Result<(), AddFault>
+    /// The place of the group of this name for a row of this weight, None where the name is new; or the
+    /// first limit that keeps the row out.
+    pub(crate) fn place_for(&self, name: &[u8], weight: u64) -> Result<Option<u32>, AddFault>
+        ensures place { IfOk result (λ place. IsPlaceOf self.now name.now place) }
         ensures taken { OnOk result (IsTaken self.now name.now weight) }
         ensures refused { IfErr result (λ fault. IsRefused self.now name.now weight fault) }
         ensures known { IfErr result (λ fault. fault ≢ add.Memory) }
@@ -58,9 +62,10 @@ impl Study {
         if weight > MOST_WEIGHT - self.total_weight() {
             return Err(AddFault::TooHeavy);
         }
-        if self.group_count() >= MOST_GROUPS && self.place_near(name).is_none() {
+        let place = self.place_near(name);
+        if place.is_none() && self.group_count() >= MOST_GROUPS {
             return Err(AddFault::TooManyGroups);
         }
-        Ok(())
+        Ok(place)
     }
 }

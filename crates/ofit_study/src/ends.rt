@@ -1,4 +1,4 @@
-ghost use Rattle.std.specs.Prelude.{◌≡◌, ◌<◌, ◌^◌, [], ◌∷◌, ◌++◌, ℕ, length, replicate, vec_len, slice_set, slice_index_or, All, IfOk, OnOk};
+ghost use Rattle.std.specs.Prelude.{◌≡◌, ◌<◌, ◌^◌, [], ◌∷◌, ◌++◌, length, replicate, vec_len, slice_set, slice_index_or, All, IfOk, OnOk};
 ghost use Rattle.ofit_study.specs.Ends.{AreAtEnds, lists_of};
 
 use std::alloc::{AllocError, Global};

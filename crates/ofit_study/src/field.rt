@@ -1,5 +1,6 @@
-ghost use Rattle.std.specs.Prelude.{◌≡◌, ◌≤◌, ◌≤ℤ◌, ◌↔◌, ℕ, pos, IsTrue, MatchOption};
-ghost use Rattle.ofit_study.specs.FieldRead.{IsNumberIn, IsWeight, RowNumberRead, ValueRead, WeightRead};
+ghost use Rattle.std.specs.Prelude.{◌≤◌, ◌≤ℤ◌, ◌↔◌, ℕ, pos, IsTrue, MatchOption};
+ghost use Rattle.ofit_study.specs.FieldRead.{IsNumberIn, ValueRead};
+ghost use Rattle.ofit_study.specs.NumbersRead.{RowNumberRead, WeightRead};
 
 use ofit_num::{MOST_UNITS, MOST_WEIGHT, NumFault, read_decimal, read_whole};
 use thiserror::Error;

@@ -1,6 +1,19 @@
+ghost use Rattle.std.specs.Prelude.{◌<◌, AllPairs};
+ghost use Rattle.ofit_study.specs.Splice.{IsCut};
+
+use crate::list::spliced;
 use ofit_num::Row;
 use std::alloc::{AllocError, Global};
 use std::marker::Model;
+use std::mem;
+
+/// How many rows have a number below this one. O(log n) time for n rows.
+fn rows_below(rows: &[Row], number: u32) -> usize
+    requires { AllPairs (λ q r. q.number < r.number) rows.now }
+    ensures { IsCut (λ r. r.number) rows.now number result }
+{
+    rows.partition_point(|row| row.number < number)
+}
 
 /// The rows of each group, groups by their places. A row is put after those of its group in constant
 /// amortised time.
@@ -19,7 +32,8 @@ impl Model for GroupRows {
 }
 
 impl GroupRows {
-    ghost use Rattle.std.specs.Prelude.{◌≡◌, ◌<◌, ◌-◌, [], ◌∷◌, ◌++◌, length, take, IfOk, OnOk, OnErr, slice_get, slice_set, slice_index_or, Some};
+    ghost use Rattle.ofit_study.specs.Splice.{IsSpliced};
+    ghost use Rattle.std.specs.Prelude.{◌≡◌, ◌≤◌, ◌<◌, ◌-◌, [], ◌∷◌, ◌++◌, length, take, AllPairs, IfOk, OnOk, OnErr, slice_get, slice_set, slice_index_or, Some};
 
     /// No groups. It takes no memory.
     pub(crate) fn new(alloc: Global) -> GroupRows
@@ -58,6 +72,36 @@ impl GroupRows {
         let rows = Vec::from_slice(alloc, &[row])?;
         self.lists.push(rows)?;
         Ok(())
+    }
+
+    /// Puts rows in place of those of the group at a place, which come in their place.
+    pub(crate) fn exchange(&mut self, place: u32, rows: &mut Vec<Row>)
+        requires { place < length self.old }
+        ensures put { self.new ≡ slice_set self.old place rows.old.items }
+        ensures left { slice_get self.old place ≡ Some rows.new.items }
+    {
+        mem::swap(&mut self.lists[place as usize], rows);
+    }
+
+    /// The rows of the group at a place with `taken` of those from the number on taken out, and others
+    /// put in their place. Linear time and memory.
+    pub(crate) fn spliced(
+        &self,
+        place: u32,
+        number: u32,
+        taken: usize,
+        put: &[Row],
+    ) -> Result<Vec<Row>, AllocError>
+        requires place { place < length self.now }
+        requires rising { AllPairs (λ q r. q.number < r.number) (slice_index_or self.now place []) }
+        requires taken { taken ≤ 1 }
+        requires few { length put.now ≤ 1 }
+        ensures { IfOk result (λ rows. IsSpliced (slice_index_or self.now place []) number taken put.now rows.items) }
+    {
+        let rows = self.at(place);
+        let start = rows_below(rows, number);
+        let end = rows.len().min(start + taken);
+        spliced(*self.lists.allocator(), rows, start, end, put)
     }
 
     /// Takes the last group away.

@@ -1,8 +1,9 @@
 ghost use Rattle.std.specs.Prelude.{◌≡◌, ◌≤◌, ◌<◌, length, All};
 ghost use Rattle.ofit_num.specs.Fit.{sum_below};
-ghost use Rattle.ofit_num.specs.Limits.{AreWithinLimits, all_rows};
+ghost use Rattle.ofit_num.specs.Limits.{all_rows};
+ghost use Rattle.ofit_num.specs.RowLimits.{AreWithinLimits};
 ghost use Rattle.ofit_num.specs.Loss.{row_sum};
-ghost use Rattle.ofit_num.specs.Problem.{HasPlaces, HasDistinctPairs};
+ghost use Rattle.ofit_num.specs.ProblemPairs.{HasPlaces, HasDistinctPairs};
 ghost use Rattle.ofit_study.specs.Name.{IsName};
 ghost use Rattle.ofit_study.specs.Study.{Study, IsValid, names_of, groups_of, problem_stated, total_weight, most_rows};
 

@@ -6,6 +6,8 @@
 
 mod adding;
 mod bound;
+mod changing;
+mod check;
 mod edit;
 mod edited;
 mod ends;
@@ -14,6 +16,7 @@ mod fault;
 mod field;
 mod groups;
 mod laws;
+mod list;
 mod loss;
 mod name;
 mod names;
@@ -33,5 +36,5 @@ pub use loss::LossKind;
 pub use name::{Name, is_name};
 pub use pattern::Pattern;
 pub use settings::Settings;
-pub use study::Study;
+pub use study::{RowChange, Study};
 pub use tight::tight_pairs;

@@ -1,4 +1,4 @@
-ghost use Rattle.std.specs.Prelude.{◌≡◌, ◌↔◌, ◌≤◌, ◌<◌, ◌≢◌, IsTrue, IfOk, MatchOption, All, IsUtf8};
+ghost use Rattle.std.specs.Prelude.{◌≡◌, ◌↔◌, ◌≤◌, ◌<◌, IsTrue, IfOk, MatchOption, All, IsUtf8};
 ghost use Rattle.ofit_study.specs.Name.{IsName, IsNameByte};
 
 use ofit_num::LONGEST_NAME;

@@ -62,11 +62,16 @@ impl Names {
         }
     }
 
-    /// Whether the name stands at the place.
+    /// Whether the name stands at the place. Last bytes are looked at first, since names that follow one
+    /// another mostly differ there.
     fn is_at(&self, place: u32, name: &[u8]) -> bool
         ensures { IsTrue result → slice_get self.now place ≡ Some name.now }
     {
-        place < self.count() && self.at(place) == name
+        if place >= self.count() {
+            return false;
+        }
+        let known = self.at(place);
+        known.last() == name.last() && known == name
     }
 
     /// The place of a name. It is found without hashing where it is the guess or the one behind it, as in

@@ -4,7 +4,7 @@ use std::alloc::{AllocError, Global};
 
 impl Study {
     ghost use Rattle.std.specs.Prelude.{◌≡◌, ◌≤◌, ◌<◌, ◌+◌, [], ◌∷◌, ◌++◌, length, map, take, drop, All, Contains, IfOk, OnOk, OnErr};
-    ghost use Rattle.ofit_study.specs.Adding.{observation};
+    ghost use Rattle.ofit_study.specs.Added.{observation};
     ghost use Rattle.ofit_study.specs.Kept.{name_at, named};
     ghost use Rattle.ofit_study.specs.Splice.{rows_between};
     ghost use Rattle.ofit_study.specs.Study.{IsValid, names_of};

@@ -1,8 +1,12 @@
+pub(crate) mod change;
+mod prepare;
+
 use crate::entry::{Entry, gap_among, index_of_number};
 use crate::groups::GroupRows;
 use crate::names::Names;
 use crate::pairs::{Pairs, index_of, ordered_pairs};
 use crate::settings::Settings;
+pub use change::RowChange;
 use ofit_num::Row;
 use ofit_order::{Order, check_order};
 use std::alloc::{AllocError, Global};
@@ -37,13 +41,14 @@ impl Study {
     ghost use Rattle.std.specs.Prelude.{◌≡◌, ◌≢◌, ◌≤◌, ◌<◌, ◌+◌, ◌^◌, ◌↔◌, ℕ, [], length, map, All, AllPairs, Contains, IfOk, OnOk, OnErr, MatchOption, slice_get, Some};
     ghost use Rattle.ofit_order.specs.Relation.{AreInOrder};
     ghost use Rattle.ofit_study.specs.Settings.{InLimits, IsBoundInLimits};
-    ghost use Rattle.ofit_study.specs.Adding.{observation, with_row, IsFirstGap};
+    ghost use Rattle.ofit_study.specs.Added.{observation, with_row, IsFirstGap, IsPlaceOf};
     ghost use Rattle.ofit_study.specs.Edited.{HasRow};
     ghost use Rattle.ofit_study.specs.Kept.{name_at, named};
     ghost use Rattle.ofit_study.specs.Splice.{IsRowAt};
     ghost use Rattle.ofit_study.specs.Ends.{indexes_at};
     ghost use Rattle.std.specs.Ordering.{nat_cmp};
-    ghost use Rattle.ofit_study.specs.Study.{ComesBefore, IsValid, HasPairs, most_pairs, empty_study, names_of, groups_of, places_of, bounds_of, total_weight};
+    ghost use Rattle.ofit_study.specs.Study.{Observation, ComesBefore, IsValid, HasPairs, most_pairs, names_of, groups_of, places_of, bounds_of, total_weight};
+    ghost use Rattle.ofit_study.specs.Empty.{empty_study};
 
     /// The study of no rows. It takes no memory.
     pub fn empty(alloc: Global, settings: Settings) -> Study
@@ -67,7 +72,23 @@ impl Study {
         ensures ok { OnOk result (self.new ≡ with_row self.old (observation name.now row)) }
         ensures err { OnErr result (self.new ≡ self.old) }
     {
-        match self.names.place_near(self.latest_place(), name) {
+        self.push_at(self.place_near(name), name, row)
+    }
+
+    /// Puts a row after the others, in the group of this place and name; with no place the name makes a
+    /// group after the others.
+    pub(crate) fn push_at(
+        &mut self,
+        place: Option<u32>,
+        name: &[u8],
+        row: Row,
+    ) -> Result<(), AllocError>
+        requires place { IsPlaceOf self.old name.now place }
+        requires valid { IsValid (with_row self.old (observation name.now row)) }
+        ensures ok { OnOk result (self.new ≡ with_row self.old (observation name.now row)) }
+        ensures err { OnErr result (self.new ≡ self.old) }
+    {
+        match place {
             Some(place) => self.add_to_group(place, row),
             None => self.add_group(name, row),
         }
@@ -76,8 +97,7 @@ impl Study {
     /// The place of the group with a name, as `place_of` gives it. It is found without hashing where it is
     /// that of the last row, or the next one.
     pub(crate) fn place_near(&self, name: &[u8]) -> Option<u32>
-        ensures { MatchOption result (All (λ known. known ≢ name.now) (names_of self.now))
-            (λ place. slice_get (names_of self.now) place ≡ Some name.now) }
+        ensures { IsPlaceOf self.now name.now result }
     {
         self.names.place_near(self.latest_place(), name)
     }
@@ -103,6 +123,15 @@ impl Study {
     {
         let entry = self.entries[index];
         (self.names.at(entry.place), entry.row)
+    }
+
+    /// The place of the group of the row at an index.
+    pub(crate) fn place_at(&self, index: usize) -> u32
+        requires { index < length self.now.rows }
+        ensures inside { result < length (names_of self.now) }
+        ensures group { (r : Observation) → slice_get self.now.rows index ≡ Some r → name_at (names_of self.now) result ≡ r.group }
+    {
+        self.entries[index].place
     }
 
     /// The place of the row that was added last, 0 where there is none.

@@ -1,6 +1,7 @@
 -- What is read so far, and the fault of the next record.
 use Rattle.std.proofs.Common.{◌≡◌, ◌++◌, ◌+◌, ◌⊎◌, ◌∙◌, ℕ, ℤ, List, [], ◌∷◌, inl, inr, length, sym, ap, subst, append_assoc}
 use Rattle.std.specs.List.{AllZip}
+use Rattle.std.proofs.lemmas.Slice.Zip.{AllZip-long}
 use Rattle.ofit_num.proofs.Lists.{zip-push}
 use Rattle.ofit_study.specs.declared.settings.Settings.{Settings}
 use Rattle.ofit_table.specs.Numbered.{AreNumbered}
@@ -8,7 +9,9 @@ use Rattle.ofit_study.specs.Study.{Observation, Study, IsValid}
 use Rattle.ofit_table.specs.declared.header.DataColumns.{DataColumns}
 use Rattle.ofit_table.specs.declared.fault.DataFault.{DataFault}
 use Rattle.ofit_table.specs.declared.fault.DataFault.TheVariants.{Memory}
-use Rattle.ofit_table.specs.Rows.{IsGood, IsRow, HasFault, RowFault}
+use Rattle.ofit_table.specs.Rows.{IsGood, IsRow, RowFault}
+use Rattle.ofit_table.specs.DataRead.{data_table}
+use Rattle.ofit_table.specs.TableRead.{HasFault}
 use Rattle.ofit_table.specs.Reading.{GainsRecord, IsSoFar}
 use Rattle.ofit_table.proofs.Pushed.{numbered-push, pushed}
 
@@ -38,16 +41,17 @@ one_more columns records left fields settings s t so g =
 -- the next record has the fault that the call tells
 pub fault_found : (columns : DataColumns) (records left : List (List (List ℕ))) (fields : List (List ℕ)) (settings : Settings) (s : Study) (number : ℕ) (fault : DataFault)
     → IsSoFar columns records (fields ∷ left) settings s → IsValid s → number ≡ length s.rows + 2 → (fault ≡ Memory) ⊎ RowFault s.settings.places columns s.rows fields number fault
-    → (fault ≡ Memory) ⊎ HasFault settings.places columns records fault
+    → (fault ≡ Memory) ⊎ HasFault (data_table settings) columns records fault
 fault_found columns records left fields settings s number fault so valid counted (inl e) = inl e
 fault_found columns records left fields settings s number fault so valid counted (inr f) =
     let places : s.settings.places ≡ settings.places = ap (λ (x : Settings). x.places) so.same in
+    let next : number ≡ length so.done + 2 = counted ∙ ap (λ (n : ℕ). n + 2) (AllZip-long (IsRow settings.places columns) so.done s.rows so.each) in
     inr (record {
       before = so.done;
       fields = fields;
       after = left;
-      rows = s.rows;
+      parts = s.rows;
       spells = so.parted;
       fine = record { each = so.each; numbered = so.numbered; few = valid.rows; light = valid.together; groups = valid.groups };
-      found = subst (λ (n : ℕ). RowFault n columns s.rows fields (length s.rows + 2) fault) places (subst (λ (n : ℕ). RowFault s.settings.places columns s.rows fields n fault) counted f);
+      found = subst (λ (n : ℕ). RowFault n columns s.rows fields (length so.done + 2) fault) places (subst (λ (n : ℕ). RowFault s.settings.places columns s.rows fields n fault) next f);
     })

@@ -1,9 +1,9 @@
 -- A header is read in one way.
-use Rattle.std.proofs.Common.{◌≡◌, ◌⊎◌, ◌∙◌, ℕ, List, Option, Some, None, inl, inr, refl, sym, ap, arith}
+use Rattle.std.proofs.Common.{◌≡◌, ◌⊎◌, ◌∙◌, ℕ, List, [], ◌∷◌, Option, Some, None, inl, inr, refl, sym, ap, arith}
 use Rattle.ofit_table.specs.declared.column.Column.{Column}
-use Rattle.ofit_table.specs.declared.column.Column.TheVariants.{Group, Value, Weight, Low, High}
+use Rattle.ofit_table.specs.declared.column.Column.TheVariants.{Group, Value, Weight}
 use Rattle.ofit_table.specs.declared.fault.DataFault.{DataFault}
-use Rattle.ofit_table.specs.declared.fault.DataFault.TheVariants.{NoHeader, NoColumn, ColumnTwice, FieldMissing, NotName, NotNumber, TooFine, TooLarge, BadWeight, TooManyRows, TooHeavy, TooManyGroups, Memory}
+use Rattle.ofit_table.specs.declared.fault.DataFault.TheVariants.{NoColumn, ColumnTwice}
 use Rattle.ofit_table.specs.declared.header.DataColumns.{DataColumns}
 use Rattle.ofit_table.specs.Columns.{AreColumns, HeaderFault, Lacks, MayStandAt, StandsAt, StandsOnce, StandsTwice}
 
@@ -19,19 +19,41 @@ not_twice header column place h k = absurd (omega (arith, k.only h.first h.at_fi
 lacks_twice : (header : List (List ℕ)) (column : Column) → Lacks header column → StandsTwice header column → ⊥
 lacks_twice header column h k = h k.first k.at_first
 
--- the fault of a header without the column, or with two of them
-abbrev pub Wants : (F : Type 0) → List (List ℕ) → Column → F → F → F → Type 0
-Wants F header column none twice fault = (Lacks header column × (fault ≡ none)) ⊎ (StandsTwice header column × (fault ≡ twice))
+-- each of the columns stands once
+abbrev pub AllStand : List (List ℕ) → List Column → Type 0
+AllStand header [] = Unit {0}
+AllStand header (column ∷ columns) = StandsOnce header column × AllStand header columns
 
-pub wants_one : (F : Type 0) (header : List (List ℕ)) (column : Column) (none twice f g : F) → Wants F header column none twice f → Wants F header column none twice g → f ≡ g
-wants_one F header column none twice f g (inl h) (inl k) = h.1 ∙ sym k.1
-wants_one F header column none twice f g (inl h) (inr k) = absurd (lacks_twice header column h.0 k.0)
-wants_one F header column none twice f g (inr h) (inl k) = absurd (lacks_twice header column k.0 h.0)
-wants_one F header column none twice f g (inr h) (inr k) = h.1 ∙ sym k.1
+-- the first of the columns that a header lacks or has twice
+module _ {F : Type 0} (header : List (List ℕ)) (lacks twice : Column → F) where
+  abbrev IsWanting : Column → F → Type 0
+  IsWanting column fault = (Lacks header column × (fault ≡ lacks column)) ⊎ (StandsTwice header column × (fault ≡ twice column))
 
-pub wants_once : (F : Type 0) (header : List (List ℕ)) (column : Column) (none twice f : F) (place : ℕ) → Wants F header column none twice f → StandsAt header column place → ⊥
-wants_once F header column none twice f place (inl h) k = not_lacked header column place h.0 k
-wants_once F header column none twice f place (inr h) k = not_twice header column place h.0 k
+  abbrev pub FirstWant : List Column → F → Type 0
+  FirstWant [] fault = ⊥
+  FirstWant (column ∷ columns) fault = IsWanting column fault ⊎ (StandsOnce header column × FirstWant columns fault)
+
+  wanting_one : (column : Column) (f g : F) → IsWanting column f → IsWanting column g → f ≡ g
+  wanting_one column f g (inl h) (inl k) = h.1 ∙ sym k.1
+  wanting_one column f g (inl h) (inr k) = absurd (lacks_twice header column h.0 k.0)
+  wanting_one column f g (inr h) (inl k) = absurd (lacks_twice header column k.0 h.0)
+  wanting_one column f g (inr h) (inr k) = h.1 ∙ sym k.1
+
+  not_wanting : (column : Column) (f : F) → IsWanting column f → StandsOnce header column → ⊥
+  not_wanting column f (inl h) s = not_lacked header column s.0 h.0 s.1
+  not_wanting column f (inr h) s = not_twice header column s.0 h.0 s.1
+
+  pub want_one : (columns : List Column) (f g : F) → FirstWant columns f → FirstWant columns g → f ≡ g
+  want_one [] f g h k = absurd h
+  want_one (c ∷ cs) f g (inl h) (inl k) = wanting_one c f g h k
+  want_one (c ∷ cs) f g (inl h) (inr (s, k)) = absurd (not_wanting c f h s)
+  want_one (c ∷ cs) f g (inr (s, h)) (inl k) = absurd (not_wanting c g k s)
+  want_one (c ∷ cs) f g (inr (s, h)) (inr (r, k)) = want_one cs f g h k
+
+  pub none_wants : (columns : List Column) (f : F) → AllStand header columns → FirstWant columns f → ⊥
+  none_wants [] f all h = h
+  none_wants (c ∷ cs) f (s, all) (inl h) = not_wanting c f h s
+  none_wants (c ∷ cs) f (s, all) (inr (r, h)) = none_wants cs f all h
 
 weight_one : (header : List (List ℕ)) (a b : Option ℕ) → MayStandAt header Weight a → MayStandAt header Weight b → a ≡ b
 weight_one header None None h k = refl
@@ -50,60 +72,35 @@ columns_one header a b h k =
     let w : a.weight ≡ b.weight = weight_one header a.weight b.weight h.weight k.weight in
     λ i. record { group = g i; value = v i; weight = w i }
 
--- the first column that is wanting
-data FirstWant (header : List (List ℕ)) (fault : DataFault) : Type 0 where
-  of_group : Wants DataFault header Group (NoColumn Group) (ColumnTwice Group) fault → FirstWant header fault
-  of_value : StandsOnce header Group → Wants DataFault header Value (NoColumn Value) (ColumnTwice Value) fault → FirstWant header fault
-  of_weight : StandsOnce header Group → StandsOnce header Value → StandsTwice header Weight → fault ≡ ColumnTwice Weight → FirstWant header fault
+-- the columns that a data table has to have
+abbrev needed : List Column
+needed = Group ∷ Value ∷ []
 
-first_want : (header : List (List ℕ)) (fault : DataFault) → HeaderFault header fault → FirstWant header fault
-first_want header (NoColumn Group) h = of_group (inl (h, refl))
-first_want header (ColumnTwice Group) h = of_group (inr (h, refl))
-first_want header (NoColumn Value) h = of_value h.0 (inl (h.1, refl))
-first_want header (ColumnTwice Value) h = of_value h.0 (inr (h.1, refl))
-first_want header (ColumnTwice Weight) h = of_weight h.0 h.1 h.2 refl
-first_want header (NoColumn Weight) h = absurd h
-first_want header (NoColumn Low) h = absurd h
-first_want header (NoColumn High) h = absurd h
-first_want header (ColumnTwice Low) h = absurd h
-first_want header (ColumnTwice High) h = absurd h
-first_want header NoHeader h = absurd h
-first_want header (FieldMissing number) h = absurd h
-first_want header (NotName number) h = absurd h
-first_want header (NotNumber number) h = absurd h
-first_want header (TooFine number) h = absurd h
-first_want header (TooLarge number) h = absurd h
-first_want header (BadWeight number) h = absurd h
-first_want header (TooManyRows number) h = absurd h
-first_want header (TooHeavy number) h = absurd h
-first_want header (TooManyGroups number) h = absurd h
-first_want header Memory h = absurd h
+-- a column that has to stand is wanting, or all stand and there are two weights
+abbrev DataWant : List (List ℕ) → DataFault → Type 0
+DataWant header fault = FirstWant header NoColumn ColumnTwice needed fault ⊎ (AllStand header needed × StandsTwice header Weight × (fault ≡ ColumnTwice Weight))
 
 module _ (header : List (List ℕ)) where
-  group_wants : (f : DataFault) → Wants DataFault header Group (NoColumn Group) (ColumnTwice Group) f → StandsOnce header Group → ⊥
-  group_wants f w s = wants_once DataFault header Group (NoColumn Group) (ColumnTwice Group) f s.0 w s.1
+  want : (fault : DataFault) → HeaderFault header fault → DataWant header fault
+  want (NoColumn Group) h = inl (inl (inl (h, refl)))
+  want (ColumnTwice Group) h = inl (inl (inr (h, refl)))
+  want (NoColumn Value) h = inl (inr (h.0, inl (inl (h.1, refl))))
+  want (ColumnTwice Value) h = inl (inr (h.0, inl (inr (h.1, refl))))
+  want (ColumnTwice Weight) h = inr ((h.0, (h.1, tt)), h.2, refl)
+  want fault h = absurd h
 
-  value_wants : (f : DataFault) → Wants DataFault header Value (NoColumn Value) (ColumnTwice Value) f → StandsOnce header Value → ⊥
-  value_wants f w s = wants_once DataFault header Value (NoColumn Value) (ColumnTwice Value) f s.0 w s.1
-
-  by_case : (f g : DataFault) → FirstWant header f → FirstWant header g → f ≡ g
-  by_case f g (of_group h) (of_group k) = wants_one DataFault header Group (NoColumn Group) (ColumnTwice Group) f g h k
-  by_case f g (of_group h) (of_value s k) = absurd (group_wants f h s)
-  by_case f g (of_group h) (of_weight s t k e) = absurd (group_wants f h s)
-  by_case f g (of_value s h) (of_group k) = absurd (group_wants g k s)
-  by_case f g (of_value s h) (of_value t k) = wants_one DataFault header Value (NoColumn Value) (ColumnTwice Value) f g h k
-  by_case f g (of_value s h) (of_weight t u k e) = absurd (value_wants f h u)
-  by_case f g (of_weight s t h e) (of_group k) = absurd (group_wants g k s)
-  by_case f g (of_weight s t h e) (of_value u k) = absurd (value_wants g k t)
-  by_case f g (of_weight s t h e) (of_weight u v k q) = e ∙ sym q
-
-  none_wants : (f : DataFault) (columns : DataColumns) → FirstWant header f → AreColumns header columns → ⊥
-  none_wants f columns (of_group h) a = group_wants f h (columns.group, a.group)
-  none_wants f columns (of_value s h) a = value_wants f h (columns.value, a.value)
-  none_wants f columns (of_weight s t h e) a = weight_twice header columns.weight h a.weight
+  by_case : (f g : DataFault) → DataWant header f → DataWant header g → f ≡ g
+  by_case f g (inl h) (inl k) = want_one header NoColumn ColumnTwice needed f g h k
+  by_case f g (inl h) (inr (all, k, q)) = absurd (none_wants header NoColumn ColumnTwice needed f all h)
+  by_case f g (inr (all, h, e)) (inl k) = absurd (none_wants header NoColumn ColumnTwice needed g all k)
+  by_case f g (inr (all, h, e)) (inr (others, k, q)) = e ∙ sym q
 
   pub header_fault_one : (f g : DataFault) → HeaderFault header f → HeaderFault header g → f ≡ g
-  header_fault_one f g h k = by_case f g (first_want header f h) (first_want header g k)
+  header_fault_one f g h k = by_case f g (want f h) (want g k)
+
+  not_wanting_any : (f : DataFault) (columns : DataColumns) → DataWant header f → AreColumns header columns → ⊥
+  not_wanting_any f columns (inl h) a = none_wants header NoColumn ColumnTwice needed f ((columns.group, a.group), ((columns.value, a.value), tt)) h
+  not_wanting_any f columns (inr (all, h, e)) a = weight_twice header columns.weight h a.weight
 
   pub no_header_fault : (f : DataFault) (columns : DataColumns) → HeaderFault header f → AreColumns header columns → ⊥
-  no_header_fault f columns h a = none_wants f columns (first_want header f h) a
+  no_header_fault f columns h a = not_wanting_any f columns (want f h) a

@@ -6,12 +6,14 @@ use Rattle.std.proofs.lemmas.List.{length-append}
 use Rattle.std.proofs.lemmas.List.Elements.{All-cons, All-nil, All-contains, Contains-append_left, Contains-get_or, Contains-push, Contains-push_cases}
 use Rattle.std.proofs.lemmas.List.Quantifiers.{all_pairs_push}
 use Rattle.ofit_num.proofs.Lists.{zip-push}
-use Rattle.ofit_study.specs.Study.{HasPairs, Study, most_pairs}
+use Rattle.ofit_study.specs.Study.{HasPairs, Study, most_pairs, names_of}
 use Rattle.ofit_table.specs.declared.fault.OrderFault.{OrderFault}
 use Rattle.ofit_table.specs.declared.fault.OrderFault.TheVariants.{Memory}
 use Rattle.ofit_table.specs.declared.header.OrderColumns.{OrderColumns}
-use Rattle.ofit_table.specs.Pairs.{AreDistinct, ArePairs, HasPairFault, IsPair, IsPairTooMany}
+use Rattle.ofit_table.specs.Pairs.{AreDistinct, ArePairs, IsPair, IsPairTooMany}
+use Rattle.ofit_table.specs.PairsRead.{order_table}
 use Rattle.ofit_table.specs.Reading.{IsNotTaken, IsReadSoFar, KnownRead, KnowsPair}
+use Rattle.ofit_table.specs.TableRead.{HasFault}
 use Rattle.ofit_table.proofs.PatternPairs.{IsInside}
 use Rattle.ofit_table.proofs.Places.{within}
 
@@ -60,18 +62,18 @@ fine columns names records left number known so = record { each = so.each; known
 all_new : (pairs known : List (ℕ × ℕ)) (pair : ℕ × ℕ) → AreDistinct pairs known → All (λ e. e ≢ pair) known → All (λ e. e ≢ pair) pairs
 all_new pairs known pair d new k e lt = All-contains (λ x. x ≢ pair) known (get_or pairs k e) new ((d.same (get_or pairs k e)).1 (Contains-get_or pairs k e lt))
 
-pub too_many_found : (columns : OrderColumns) (names : List (List ℕ)) (records left : List (List (List ℕ))) (fields : List (List ℕ)) (number : ℕ) (known : List (ℕ × ℕ)) (pair : ℕ × ℕ) (fault : OrderFault)
-    → IsReadSoFar columns names records (fields ∷ left) number known → IsPair columns names fields pair → (fault ≡ Memory) ⊎ IsNotTaken known pair number fault
-    → (fault ≡ Memory) ⊎ HasPairFault columns names records fault
-too_many_found columns names records left fields number known pair fault so is (inl memory) = inl memory
-too_many_found columns names records left fields number known pair fault so is (inr not) = inr record {
+pub too_many_found : (columns : OrderColumns) (study : Study) (records left : List (List (List ℕ))) (fields : List (List ℕ)) (number : ℕ) (known : List (ℕ × ℕ)) (pair : ℕ × ℕ) (fault : OrderFault)
+    → IsReadSoFar columns (names_of study) records (fields ∷ left) number known → IsPair columns (names_of study) fields pair → (fault ≡ Memory) ⊎ IsNotTaken known pair number fault
+    → (fault ≡ Memory) ⊎ HasFault (order_table study) columns records fault
+too_many_found columns study records left fields number known pair fault so is (inl memory) = inl memory
+too_many_found columns study records left fields number known pair fault so is (inr not) = inr record {
   before = so.done;
   fields = fields;
   after = left;
-  pairs = so.pairs;
+  parts = so.pairs;
   spells = so.parted;
-  fine = fine columns names records (fields ∷ left) number known so;
-  found = inr (subst (λ (n : ℕ). IsPairTooMany columns names so.pairs fields n fault) so.next record {
+  fine = fine columns (names_of study) records (fields ∷ left) number known so;
+  found = inr (subst (λ (n : ℕ). IsPairTooMany columns (names_of study) so.pairs fields n fault) so.next record {
     is = not.is;
     pair = pair;
     related = is;
@@ -89,9 +91,9 @@ inside columns names (r ∷ records) [] h = absurd h
 inside columns names (r ∷ records) (p ∷ pairs) h =
     All-cons (IsInside (length names)) p pairs (within names p.0 h.0.low h.0.low_place, within names p.1 h.0.high h.0.high_place) (inside columns names records pairs h.1)
 
-pub known_inside : (columns : OrderColumns) (names : List (List ℕ)) (records : List (List (List ℕ))) (known : List (ℕ × ℕ)) → KnownRead columns names records (Ok known) → All (IsInside (length names)) known
-known_inside columns names records known h k e lt =
-    All-contains (IsInside (length names)) h.0 (get_or known k e) (inside columns names records h.0 h.1) ((h.2.same (get_or known k e)).0 (Contains-get_or known k e lt))
+pub known_inside : (columns : OrderColumns) (study : Study) (records : List (List (List ℕ))) (known : List (ℕ × ℕ)) → KnownRead columns study records (Ok known) → All (IsInside (length (names_of study))) known
+known_inside columns study records known h k e lt =
+    All-contains (IsInside (length (names_of study))) h.0 (get_or known k e) (inside columns (names_of study) records h.0 h.1) ((h.2.same (get_or known k e)).0 (Contains-get_or known k e lt))
 
 -- a study takes pairs as it takes them each once
 pub pairs_taken : (study after : Study) (pairs known : List (ℕ × ℕ)) → AreDistinct pairs known → HasPairs study known after → HasPairs study pairs after

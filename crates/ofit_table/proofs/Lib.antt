@@ -4,10 +4,10 @@ pub mod Found
 pub mod PatternPairs
 pub mod PairKeys
 pub mod KnownPairs
-pub mod Partings
 pub mod HeaderReadings
 pub mod RecordReadings
 pub mod LimitReadings
+pub mod OneTable
 pub mod TableReadings
 pub mod NamedPairs
 pub mod PatternReadings

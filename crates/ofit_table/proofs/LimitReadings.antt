@@ -7,7 +7,7 @@ use Rattle.std.proofs.lemmas.List.Sums.{sum_by-append, sum_by-cons}
 use Rattle.ofit_study.specs.Study.{Observation, group_names, is_same_name, most_groups, most_rows, total_weight}
 use Rattle.ofit_study.proofs.GroupNames.{group_names-push, group_names-push_new}
 use Rattle.ofit_table.specs.declared.fault.DataFault.{DataFault}
-use Rattle.ofit_table.specs.declared.fault.DataFault.TheVariants.{NoHeader, NoColumn, ColumnTwice, FieldMissing, NotName, NotNumber, TooFine, TooLarge, BadWeight, TooManyRows, TooHeavy, TooManyGroups, Memory}
+use Rattle.ofit_table.specs.declared.fault.DataFault.TheVariants.{TooManyRows, TooHeavy, TooManyGroups}
 use Rattle.ofit_table.specs.Rows.{LimitFault}
 
 cond_longer : (b : Bool) (names : List (List ℕ)) (name : List ℕ) → length names ≤ length (cond b names (names ++ name ∷ []))
@@ -34,16 +34,7 @@ module _ (before : List Observation) (group : List ℕ) (weight number : ℕ) wh
   limit_case (TooManyRows n) (e, many) = too_many many (ap TooManyRows e)
   limit_case (TooHeavy n) (e, few, much) = too_heavy few much (ap TooHeavy e)
   limit_case (TooManyGroups n) (e, few, light, new, full) = too_wide few light new full (ap TooManyGroups e)
-  limit_case NoHeader h = absurd h
-  limit_case (NoColumn column) h = absurd h
-  limit_case (ColumnTwice column) h = absurd h
-  limit_case (FieldMissing n) h = absurd h
-  limit_case (NotName n) h = absurd h
-  limit_case (NotNumber n) h = absurd h
-  limit_case (TooFine n) h = absurd h
-  limit_case (TooLarge n) h = absurd h
-  limit_case (BadWeight n) h = absurd h
-  limit_case Memory h = absurd h
+  limit_case fault h = absurd h
 
   by_case : (f g : DataFault) → LimitCase f → LimitCase g → f ≡ g
   by_case f g (too_many h e) (too_many k q) = e ∙ sym q

@@ -1,36 +1,12 @@
 -- A study has pairs of places in one way.
-use Rattle.std.proofs.Common.{◌≡◌, ◌∙◌, ℕ, List, Ordering, map, inl, inr, sym, ap, subst}
+use Rattle.std.proofs.Common.{◌≡◌, ◌∙◌, ℕ, List, map, sym, ap, subst}
 use Rattle.std.specs.Prelude.{All, Contains}
-use Rattle.std.specs.declared.cmp.Ordering.TheVariants.{Less, Equal, Greater}
-use Rattle.std.specs.Cmp.Lexicographic.{slice_cmp}
-use Rattle.std.specs.Ordering.{nat_cmp, ordering_reverse}
-use Rattle.std.proofs.lemmas.Cmp.{nat_list_cmp_total}
 use Rattle.std.proofs.lemmas.List.Elements.{All-contains}
 use Rattle.ofit_study.specs.Kept.{name_at}
-use Rattle.ofit_study.specs.Study.{ComesBefore, HasPairs, IsBefore, Study, names_of, place_among, places_of}
+use Rattle.ofit_study.specs.Study.{HasPairs, Study, names_of, place_among, places_of}
+use Rattle.ofit_study.proofs.PairOrder.{ordered_one}
 use Rattle.ofit_study.proofs.Stating.{name_at-place}
-use Rattle.ofit_num.proofs.Members.{from_map, in_map, sorted_one}
-
-never_less : (o : Ordering) → o ≡ ordering_reverse o → o ≡ Less → ⊥
-never_less Less e l = absurd cc
-never_less Equal e l = absurd cc
-never_less Greater e l = absurd cc
-
-never_text : (a : List ℕ) → IsBefore a a → ⊥
-never_text a h = never_less (slice_cmp nat_cmp a a) (nat_list_cmp_total.antisymm a a) h
-
-over_text : (a b c : List ℕ) → IsBefore a b → IsBefore b c → IsBefore a c
-over_text a b c h k = nat_list_cmp_total.trans a b c h k
-
-never : (e : List ℕ × List ℕ) → ComesBefore e e → ⊥
-never e (inl h) = never_text e.0 h
-never e (inr h) = never_text e.1 h.1
-
-over : (e f g : List ℕ × List ℕ) → ComesBefore e f → ComesBefore f g → ComesBefore e g
-over e f g (inl h) (inl k) = inl (over_text e.0 f.0 g.0 h k)
-over e f g (inl h) (inr k) = inl (subst (λ (t : List ℕ). IsBefore e.0 t) k.0 h)
-over e f g (inr h) (inl k) = inl (subst (λ (t : List ℕ). IsBefore t g.0) (sym h.0) k)
-over e f g (inr h) (inr k) = inr (h.0 ∙ k.0, over_text e.1 f.1 g.1 h.1 k.1)
+use Rattle.ofit_num.proofs.Members.{from_map, in_map}
 
 -- the places of a pair of names
 abbrev placed : List (List ℕ) → List ℕ × List ℕ → ℕ × ℕ
@@ -67,5 +43,5 @@ paired_one study places s t h k =
     let known_t = known_in names (names_of t) t.pairs of_t k.known in
     let on = member names s.pairs t.pairs known_s known_t (λ p c. subst (λ (u : List (ℕ × ℕ)). Contains u p) at_t ((k.only p).0 ((h.only p).1 (subst (λ (u : List (ℕ × ℕ)). Contains u p) (sym at_s) c)))) in
     let back = member names t.pairs s.pairs known_t known_s (λ p c. subst (λ (u : List (ℕ × ℕ)). Contains u p) at_s ((h.only p).0 ((k.only p).1 (subst (λ (u : List (ℕ × ℕ)). Contains u p) (sym at_t) c)))) in
-    let pairs : s.pairs ≡ t.pairs = sorted_one ComesBefore never over s.pairs t.pairs h.in_order k.in_order on back in
+    let pairs : s.pairs ≡ t.pairs = ordered_one s.pairs t.pairs h.in_order k.in_order on back in
     h.others ∙ ap (λ (u : List (List ℕ × List ℕ)). record study { pairs = u }) pairs ∙ sym k.others

@@ -1,20 +1,18 @@
 -- A record of an order file is read in one way.
-use Rattle.std.proofs.Common.{◌≡◌, ◌≢◌, ◌≤◌, ◌+◌, ◌⊎◌, ◌++◌, ◌∙◌, ℕ, List, [], ◌∷◌, Some, length, get_or, inl, inr, refl, sym, ap, subst, arith}
+use Rattle.std.proofs.Common.{◌≡◌, ◌≢◌, ◌≤◌, ◌+◌, ◌⊎◌, ◌++◌, ◌∙◌, ℕ, List, [], ◌∷◌, Some, length, get_or, inl, inr, sym, ap, subst, arith}
 use Rattle.std.specs.Prelude.{All, AllPairs, Contains, slice_get}
-use Rattle.std.specs.List.{AllZip}
 use Rattle.std.proofs.lemmas.List.{length-append}
 use Rattle.std.proofs.lemmas.List.Elements.{All-contains, Contains-append_left, Contains-append_right, Contains-get_or, Contains-push_cases}
 use Rattle.std.proofs.lemmas.List.Quantifiers.{all_pairs_push}
 use Rattle.ofit_study.specs.Study.{most_pairs}
-use Rattle.ofit_study.proofs.Pushing.{slice_get-Contains}
 use Rattle.ofit_table.specs.declared.fault.OrderFault.{OrderFault}
-use Rattle.ofit_table.specs.declared.fault.OrderFault.TheVariants.{NoHeader, NoColumn, ColumnTwice, FieldMissing, UnknownGroup, TooManyPairs, NoGroup, Memory}
+use Rattle.ofit_table.specs.declared.fault.OrderFault.TheVariants.{FieldMissing, UnknownGroup}
 use Rattle.ofit_table.specs.declared.header.OrderColumns.{OrderColumns}
-use Rattle.ofit_table.specs.Pairs.{AreDistinct, AreEnds, ArePairs, IsPair, IsPairTooMany, IsUnknown, PairFault}
+use Rattle.ofit_table.specs.Pairs.{AreDistinct, AreEnds, ArePairs, IsPair, IsPairTooMany, IsUnknown, OwnPairFault, PairFault}
 use Rattle.ofit_num.proofs.Members.{cons_first}
 use Rattle.ofit_num.proofs.Pigeonhole.{distinct_few}
 use Rattle.ofit_study.proofs.Places.{named_place}
-use Rattle.ofit_table.proofs.Places.{within}
+use Rattle.ofit_table.proofs.Places.{nowhere, within}
 use Rattle.ofit_table.proofs.RecordReadings.{field_one}
 
 module _ (columns : OrderColumns) (names : List (List ℕ)) where
@@ -37,14 +35,11 @@ module _ (columns : OrderColumns) (names : List (List ℕ)) where
   not_short fields low high (inl s) h = absurd (omega (arith, s, within fields columns.low low h.at_low))
   not_short fields low high (inr s) h = absurd (omega (arith, s, within fields columns.high high h.at_high))
 
-  known : (name : List ℕ) (place : ℕ) → IsUnknown names name → slice_get names place ≡ Some name → ⊥
-  known name place h e = All-contains (λ other. other ≢ name) names name h (slice_get-Contains names place name e) refl
-
   not_known : (fields : List (List ℕ)) (low high : List ℕ) (pair : ℕ × ℕ) → AreEnds columns fields low high → IsUnknown names low ⊎ IsUnknown names high → IsPair columns names fields pair → ⊥
   not_known fields low high pair h (inl u) k =
-      known low pair.0 u (subst (λ (t : List ℕ). slice_get names pair.0 ≡ Some t) (ends_one fields k.low k.high low high k.ends h).lows k.low_place)
+      nowhere names low pair.0 u (subst (λ (t : List ℕ). slice_get names pair.0 ≡ Some t) (ends_one fields k.low k.high low high k.ends h).lows k.low_place)
   not_known fields low high pair h (inr u) k =
-      known high pair.1 u (subst (λ (t : List ℕ). slice_get names pair.1 ≡ Some t) (ends_one fields k.low k.high low high k.ends h).highs k.high_place)
+      nowhere names high pair.1 u (subst (λ (t : List ℕ). slice_get names pair.1 ≡ Some t) (ends_one fields k.low k.high low high k.ends h).highs k.high_place)
 
   -- why a record has no pair, or none behind these ones
   data PairCase (before : List (ℕ × ℕ)) (fields : List (List ℕ)) (number : ℕ) (fault : OrderFault) : Type 0 where
@@ -53,17 +48,12 @@ module _ (columns : OrderColumns) (names : List (List ℕ)) where
     too_many : IsPairTooMany columns names before fields number fault → PairCase before fields number fault
 
   module _ (before : List (ℕ × ℕ)) (fields : List (List ℕ)) (number : ℕ) where
-    own_case : (fault : OrderFault) → PairFault columns names fields number fault → PairCase before fields number fault
+    own_case : (fault : OrderFault) → OwnPairFault columns names fields number fault → PairCase before fields number fault
     own_case (FieldMissing n) (e, s) = short s (ap FieldMissing e)
     own_case (UnknownGroup n) (e, low, high, ends, who) = unknown low high ends who (ap UnknownGroup e)
-    own_case (TooManyPairs n) h = absurd h
-    own_case NoHeader h = absurd h
-    own_case (NoColumn column) h = absurd h
-    own_case (ColumnTwice column) h = absurd h
-    own_case NoGroup h = absurd h
-    own_case Memory h = absurd h
+    own_case fault h = absurd h
 
-    pair_case : (fault : OrderFault) → PairFault columns names fields number fault ⊎ IsPairTooMany columns names before fields number fault → PairCase before fields number fault
+    pair_case : (fault : OrderFault) → PairFault columns names before fields number fault → PairCase before fields number fault
     pair_case fault (inl h) = own_case fault h
     pair_case fault (inr h) = too_many h
 
@@ -78,7 +68,7 @@ module _ (columns : OrderColumns) (names : List (List ℕ)) where
     by_case f g (too_many m) (unknown low high ends who q) = absurd (not_known fields low high m.pair ends who m.related)
     by_case f g (too_many m) (too_many n) = m.is ∙ sym n.is
 
-    pub pair_fault_one : (f g : OrderFault) → PairFault columns names fields number f ⊎ IsPairTooMany columns names before fields number f → PairFault columns names fields number g ⊎ IsPairTooMany columns names before fields number g
+    pub pair_fault_one : (f g : OrderFault) → PairFault columns names before fields number f → PairFault columns names before fields number g
         → f ≡ g
     pair_fault_one f g h k = by_case f g (pair_case f h) (pair_case g k)
 
@@ -89,17 +79,6 @@ module _ (columns : OrderColumns) (names : List (List ℕ)) where
         let low : p.0 ≡ q.0 = named_place names h.low p.0 q.0 apart h.low_place (subst (λ (t : List ℕ). slice_get names q.0 ≡ Some t) same.lows k.low_place) in
         let high : p.1 ≡ q.1 = named_place names h.high p.1 q.1 apart h.high_place (subst (λ (t : List ℕ). slice_get names q.1 ≡ Some t) same.highs k.high_place) in
         λ i. (low i, high i)
-
-    pub pairs_one : (records : List (List (List ℕ))) (pairs others : List (ℕ × ℕ)) → AllZip (IsPair columns names) records pairs → AllZip (IsPair columns names) records others → pairs ≡ others
-    pairs_one [] [] [] h k = refl
-    pairs_one [] [] (q ∷ others) h k = absurd k
-    pairs_one [] (p ∷ pairs) others h k = absurd h
-    pairs_one (fields ∷ records) [] others h k = absurd h
-    pairs_one (fields ∷ records) (p ∷ pairs) [] h k = absurd k
-    pairs_one (fields ∷ records) (p ∷ pairs) (q ∷ others) h k =
-        let one : p ≡ q = pair_one fields p q h.0 k.0 in
-        let all : pairs ≡ others = pairs_one records pairs others h.1 k.1 in
-        λ i. one i ∷ all i
 
     -- pairs of which one is new behind as many as there may be are too many
     overfull : (before rest : List (ℕ × ℕ)) (pair : ℕ × ℕ) (kept all : List (ℕ × ℕ)) → AreDistinct before kept → All (λ earlier. earlier ≢ pair) before → AreDistinct (before ++ pair ∷ rest) all → length kept + 1 ≤ length all
@@ -123,5 +102,5 @@ module _ (columns : OrderColumns) (names : List (List ℕ)) where
 
     -- a record with a pair, and pairs behind it that aren't too many, has no fault
     pub none_at : (before rest : List (ℕ × ℕ)) (pair : ℕ × ℕ) (fields : List (List ℕ)) (number : ℕ) (f : OrderFault) (records : List (List (List ℕ)))
-        → PairFault columns names fields number f ⊎ IsPairTooMany columns names before fields number f → IsPair columns names fields pair → ArePairs columns names records (before ++ pair ∷ rest) → ⊥
+        → PairFault columns names before fields number f → IsPair columns names fields pair → ArePairs columns names records (before ++ pair ∷ rest) → ⊥
     none_at before rest pair fields number f records h is all = none_by before rest pair fields number f all.known (pair_case before fields number f h) is all.distinct all.few

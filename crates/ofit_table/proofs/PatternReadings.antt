@@ -1,18 +1,17 @@
 -- A pattern is read in one way.
-use Rattle.std.proofs.Common.{◌≡◌, ◌≢◌, ◌∙◌, ℕ, List, Some, Result, Ok, Err, length, refl, sym, ap, subst}
-use Rattle.std.specs.Prelude.{All, AllPairs, slice_get}
-use Rattle.std.proofs.lemmas.List.Elements.{All-contains}
+use Rattle.std.proofs.Common.{◌≡◌, ◌≢◌, ◌∙◌, ℕ, List, Result, Ok, Err, length, refl, sym, ap, subst}
+use Rattle.std.specs.Prelude.{AllPairs}
 use Rattle.ofit_study.specs.declared.pattern.Pattern.{Pattern}
 use Rattle.ofit_study.specs.declared.pattern.Pattern.TheVariants.{NoPairs, Chain, Umbrella, Tree}
 use Rattle.ofit_study.specs.Study.{HasPairs, Study, names_of}
 use Rattle.ofit_study.proofs.GroupNames.{group_names-distinct}
-use Rattle.ofit_study.proofs.Pushing.{slice_get-Contains}
 use Rattle.ofit_table.specs.declared.fault.OrderFault.{OrderFault}
-use Rattle.ofit_table.specs.declared.fault.OrderFault.TheVariants.{NoHeader, NoColumn, ColumnTwice, FieldMissing, UnknownGroup, TooManyPairs, NoGroup, Memory}
+use Rattle.ofit_table.specs.declared.fault.OrderFault.TheVariants.{NoGroup, Memory}
 use Rattle.ofit_num.specs.Pairs.{tree_pairs, umbrella_pairs}
 use Rattle.ofit_table.specs.PatternRead.{ArePatternPairs, PatternRead}
 use Rattle.ofit_study.proofs.Places.{named_place}
 use Rattle.ofit_table.proofs.NamedPairs.{paired_one}
+use Rattle.ofit_table.proofs.Places.{nowhere}
 
 module _ (names : List (List ℕ)) (apart : AllPairs (λ a b. a ≢ b) names) where
   pub shape_one : (pattern : Pattern) (pairs others : List (ℕ × ℕ)) → ArePatternPairs pattern names (Ok pairs) → ArePatternPairs pattern names (Ok others) → pairs ≡ others
@@ -21,32 +20,20 @@ module _ (names : List (List ℕ)) (apart : AllPairs (λ a b. a ≢ b) names) wh
   shape_one (Umbrella name) pairs others h k = h.2 ∙ ap (λ (t : ℕ). umbrella_pairs t (length names)) (named_place names name h.0 k.0 apart h.1 k.1) ∙ sym k.2
   shape_one (Tree name) pairs others h k = h.2 ∙ ap (λ (t : ℕ). tree_pairs t (length names)) (named_place names name h.0 k.0 apart h.1 k.1) ∙ sym k.2
 
-  nowhere : (name : List ℕ) (place : ℕ) → All (λ known. known ≢ name) names → slice_get names place ≡ Some name → ⊥
-  nowhere name place h e = All-contains (λ known. known ≢ name) names name h (slice_get-Contains names place name e) refl
-
   -- a pattern with pairs has no fault, and the fault of one without is told
   pub no_fault : (pattern : Pattern) (fault : OrderFault) (pairs : List (ℕ × ℕ)) → ArePatternPairs pattern names (Err fault) → (fault ≡ Memory → ⊥) → ArePatternPairs pattern names (Ok pairs) → ⊥
-  no_fault NoPairs NoGroup pairs h denied k = absurd h
-  no_fault Chain NoGroup pairs h denied k = absurd h
-  no_fault (Umbrella name) NoGroup pairs h denied k = nowhere name k.0 h k.1
-  no_fault (Tree name) NoGroup pairs h denied k = nowhere name k.0 h k.1
-  no_fault pattern NoHeader pairs h denied k = absurd h
-  no_fault pattern (NoColumn column) pairs h denied k = absurd h
-  no_fault pattern (ColumnTwice column) pairs h denied k = absurd h
-  no_fault pattern (FieldMissing number) pairs h denied k = absurd h
-  no_fault pattern (UnknownGroup number) pairs h denied k = absurd h
-  no_fault pattern (TooManyPairs number) pairs h denied k = absurd h
+  no_fault (Umbrella name) NoGroup pairs h denied k = nowhere names name k.0 h k.1
+  no_fault (Tree name) NoGroup pairs h denied k = nowhere names name k.0 h k.1
   no_fault pattern Memory pairs h denied k = absurd (denied refl)
+  no_fault pattern fault pairs h denied k = absurd h
 
   pub no_group : (pattern : Pattern) (fault : OrderFault) → ArePatternPairs pattern names (Err fault) → (fault ≡ Memory → ⊥) → fault ≡ NoGroup
   no_group pattern NoGroup h denied = refl
-  no_group pattern NoHeader h denied = absurd h
-  no_group pattern (NoColumn column) h denied = absurd h
-  no_group pattern (ColumnTwice column) h denied = absurd h
-  no_group pattern (FieldMissing number) h denied = absurd h
-  no_group pattern (UnknownGroup number) h denied = absurd h
-  no_group pattern (TooManyPairs number) h denied = absurd h
   no_group pattern Memory h denied = absurd (denied refl)
+  no_group NoPairs fault h denied = absurd h
+  no_group Chain fault h denied = absurd h
+  no_group (Umbrella name) fault h denied = absurd h
+  no_group (Tree name) fault h denied = absurd h
 
 module _ (pattern : Pattern) (study : Study) where
   not_both : (s : Study) (fault : OrderFault) → PatternRead pattern study (Ok s) → PatternRead pattern study (Err fault) → (fault ≡ Memory → ⊥) → ⊥

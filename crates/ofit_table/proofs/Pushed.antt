@@ -8,7 +8,7 @@ use Rattle.ofit_table.specs.Numbered.{AreNumbered}
 use Rattle.ofit_study.specs.Study.{GainsRow, IsFreeNumber, Observation, Study}
 
 -- the numbers rise from n on
-abbrev NumberedFrom : ℕ → List Observation → Type 0
+abbrev pub NumberedFrom : ℕ → List Observation → Type 0
 NumberedFrom n rows = (k : ℕ) (r : Observation) → slice_get rows k ≡ Some r → r.number ≡ k + n
 
 numbered_from-push : (n : ℕ) (rows : List Observation) (r : Observation) → NumberedFrom n rows → r.number ≡ length rows + n → NumberedFrom n (rows ++ r ∷ [])

@@ -9,7 +9,7 @@ use Rattle.ofit_study.specs.FieldRead.{IsValue, ValueRead}
 use Rattle.ofit_study.proofs.FieldReads.{one_value, one_weight}
 use Rattle.ofit_study.specs.Name.{IsName}
 use Rattle.ofit_table.specs.declared.fault.DataFault.{DataFault}
-use Rattle.ofit_table.specs.declared.fault.DataFault.TheVariants.{NoHeader, NoColumn, ColumnTwice, FieldMissing, NotName, NotNumber, TooFine, TooLarge, BadWeight, TooManyRows, TooHeavy, TooManyGroups, Memory}
+use Rattle.ofit_table.specs.declared.fault.DataFault.TheVariants.{FieldMissing, NotName, NotNumber, TooFine, TooLarge, BadWeight}
 use Rattle.ofit_table.specs.declared.header.DataColumns.{DataColumns}
 use Rattle.ofit_table.specs.Rows.{AreNamed, AreTexts, IsGood, IsShortOf, IsTooShort, IsRowWeight, IsWeightText, OwnFault, Texts}
 use Rattle.ofit_table.specs.Reading.{value_fault}
@@ -84,13 +84,7 @@ module _ (places : ℕ) (columns : DataColumns) (fields : List (List ℕ)) where
     own_case (TooFine n) (e, (t, a, r)) = valueless t a num.TooFine r (ap TooFine e)
     own_case (TooLarge n) (e, (t, a, r)) = valueless t a num.TooLarge r (ap TooLarge e)
     own_case (BadWeight n) (e, t, a, (z, is), denied) = weightless t a z is denied (ap BadWeight e)
-    own_case NoHeader h = absurd h
-    own_case (NoColumn column) h = absurd h
-    own_case (ColumnTwice column) h = absurd h
-    own_case (TooManyRows n) h = absurd h
-    own_case (TooHeavy n) h = absurd h
-    own_case (TooManyGroups n) h = absurd h
-    own_case Memory h = absurd h
+    own_case fault h = absurd h
 
     named : (t u : Texts) → AreTexts columns fields t → (IsName t.group → ⊥) → AreNamed columns fields u → ⊥
     named t u a denied b = denied (subst (λ (x : Texts). IsName x.group) (texts_one u t b.taken a) b.name)

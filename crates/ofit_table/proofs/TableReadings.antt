@@ -1,25 +1,27 @@
 -- A data table is read in one way.
-use Rattle.std.proofs.Common.{◌≡◌, ◌+◌, ◌++◌, ◌∙◌, ℕ, zero, suc, List, [], ◌∷◌, Some, Result, Ok, Err, length, slice_get, inl, inr, refl, sym, ap, subst, arith}
+use Rattle.std.proofs.Common.{◌≡◌, ◌++◌, ◌∙◌, ℕ, zero, suc, List, [], ◌∷◌, Some, Result, Err, slice_get, inl, inr, refl, sym, ap, subst, arith}
 use Rattle.std.specs.List.{AllZip}
-use Rattle.ofit_num.proofs.Partings.{at_one, first_shorter, parted, second_shorter}
 use Rattle.ofit_records.specs.Records.{records_of}
 use Rattle.ofit_table.specs.Numbered.{AreNumbered}
 use Rattle.ofit_study.specs.Study.{Observation, Study}
 use Rattle.ofit_study.specs.declared.settings.Settings.{Settings}
 use Rattle.ofit_table.specs.declared.fault.DataFault.{DataFault}
-use Rattle.ofit_table.specs.declared.fault.DataFault.TheVariants.{NoHeader, NoColumn, ColumnTwice, FieldMissing, NotName, NotNumber, TooFine, TooLarge, BadWeight, TooManyRows, TooHeavy, TooManyGroups, Memory}
+use Rattle.ofit_table.specs.declared.fault.DataFault.TheVariants.{Memory}
 use Rattle.ofit_table.specs.declared.header.DataColumns.{DataColumns}
-use Rattle.ofit_table.specs.Columns.{AreColumns, HeaderFault}
-use Rattle.ofit_table.specs.DataRead.{DataRead, FaultRead, HasHeaderFault, HasRowFault, IsStudyOf}
-use Rattle.ofit_table.specs.Rows.{AreRows, HasFault, IsRow, IsTooMuch, LimitFault, RowFault}
+use Rattle.ofit_table.specs.DataRead.{DataRead, data_table}
+use Rattle.ofit_table.specs.Rows.{AreRows, IsRow, IsTooMuch, LimitFault, RowFault}
 use Rattle.ofit_table.proofs.HeaderReadings.{columns_one, header_fault_one, no_header_fault}
 use Rattle.ofit_table.proofs.LimitReadings.{limit_one, no_limit}
-use Rattle.ofit_table.proofs.Partings.{get-before, heads, not_empty, split, tails}
+use Rattle.ofit_study.proofs.Zips.{split}
+use Rattle.ofit_table.proofs.OneTable.{AreSure, one_table as one_way}
+use Rattle.ofit_table.proofs.Pushed.{NumberedFrom}
 use Rattle.ofit_table.proofs.RecordReadings.{good_one, own_good, own_one}
 
--- the numbers rise from n on
-abbrev NumberedFrom : ℕ → List Observation → Type 0
-NumberedFrom n rows = (k : ℕ) (r : Observation) → slice_get rows k ≡ Some r → r.number ≡ k + n
+-- a place keeps what stands there
+get-before : {B : Type 0} (xs ys : List B) (k : ℕ) (x : B) → slice_get xs k ≡ Some x → slice_get (xs ++ ys) k ≡ Some x
+get-before [] ys k x e = cc
+get-before (y ∷ xs) ys zero x e = e
+get-before (y ∷ xs) ys (suc k) x e = get-before xs ys k x e
 
 numbered_rest : (n : ℕ) (row : Observation) (rows : List Observation) → NumberedFrom n (row ∷ rows) → NumberedFrom (suc n) rows
 numbered_rest n row rows h k r at = omega (arith, h (suc k) r at)
@@ -78,104 +80,22 @@ module _ (places : ℕ) (columns : DataColumns) where
   none_among : (before after : List (List (List ℕ))) (fields : List (List ℕ)) (rows all : List Observation) (number : ℕ) (f : DataFault) → AreRows places columns before rows → RowFault places columns rows fields number f
       → AreRows places columns (before ++ fields ∷ after) all → ⊥
   none_among before after fields rows all number f fine found h =
-      let s = split Observation (IsRow places columns) before fields after all h.each in
+      let s = split (IsRow places columns) before fields after all h.each in
       let numbered : AreNumbered (s.done ++ s.one ∷ s.rest) = subst AreNumbered s.same h.numbered in
       let done : s.done ≡ rows = rows_from 1 before s.done rows s.each fine.each (numbered_before 1 s.done (s.one ∷ s.rest) numbered) fine.numbered in
       let same : all ≡ rows ++ s.one ∷ s.rest = s.same ∙ ap (λ (t : List Observation). t ++ s.one ∷ s.rest) done in
       none_at rows s.rest s.one fields number f (before ++ fields ∷ after) found s.at (subst (AreRows places columns (before ++ fields ∷ after)) same h)
 
-  first_one : (records : List (List (List ℕ))) (f g : DataFault) → HasFault places columns records f → HasFault places columns records g → f ≡ g
-  first_one records f g h k =
-      elim (parted h.before k.before h.after k.after h.fields k.fields (sym h.spells ∙ k.spells)) [
-        | at_one e x ↦
-            let rows : k.rows ≡ h.rows = rows_one h.before k.rows h.rows (subst (λ (t : List (List (List ℕ))). AreRows places columns t k.rows) (sym e) k.fine) h.fine in
-            let moved : RowFault places columns h.rows k.fields (length h.rows + 2) g = subst (λ (t : List Observation). RowFault places columns t k.fields (length t + 2) g) rows k.found in
-            fault_one h.rows h.fields (length h.rows + 2) f g h.found (subst (λ (t : List (List ℕ)). RowFault places columns h.rows t (length h.rows + 2) g) (sym x) moved)
-        | first_shorter t e ↦
-            absurd (none_among h.before t h.fields h.rows k.rows (length h.rows + 2) f h.fine h.found (subst (λ (u : List (List (List ℕ))). AreRows places columns u k.rows) e k.fine))
-        | second_shorter t e ↦
-            absurd (none_among k.before t k.fields k.rows h.rows (length k.rows + 2) g k.fine k.found (subst (λ (u : List (List (List ℕ))). AreRows places columns u h.rows) e h.fine))
-      ]
+sure : (settings : Settings) → AreSure (data_table settings)
+sure settings = record {
+  columns_one = columns_one;
+  header_one = header_fault_one;
+  header_good = no_header_fault;
+  parts_one = rows_one settings.places;
+  fault_one = fault_one settings.places;
+  fault_good = none_among settings.places;
+  made_one = λ rows s u h k. h ∙ sym k;
+}
 
-  none_first : (records : List (List (List ℕ))) (f : DataFault) (all : List Observation) → HasFault places columns records f → AreRows places columns records all → ⊥
-  none_first records f all h k =
-      none_among h.before h.after h.fields h.rows all (length h.rows + 2) f h.fine h.found (subst (λ (t : List (List (List ℕ))). AreRows places columns t all) h.spells k)
-
-module _ (records : List (List (List ℕ))) (settings : Settings) where
-  -- what a table is read as, want of memory aside
-  data TableCase (result : Result Study DataFault) : Type 0 where
-    empty : records ≡ [] → result ≡ Err NoHeader → TableCase result
-    bad_header : (fault : DataFault) → HasHeaderFault records fault → result ≡ Err fault → TableCase result
-    bad_row : (fault : DataFault) → HasRowFault records settings.places fault → result ≡ Err fault → TableCase result
-    whole : (study : Study) → IsStudyOf records settings study → result ≡ Ok study → TableCase result
-
-  fault_case : (fault : DataFault) → FaultRead records settings.places fault → (fault ≡ Memory → ⊥) → TableCase (Err fault)
-  fault_case NoHeader h denied = empty h refl
-  fault_case (NoColumn column) h denied = bad_header (NoColumn column) h refl
-  fault_case (ColumnTwice column) h denied = bad_header (ColumnTwice column) h refl
-  fault_case (FieldMissing n) h denied = bad_row (FieldMissing n) h refl
-  fault_case (NotName n) h denied = bad_row (NotName n) h refl
-  fault_case (NotNumber n) h denied = bad_row (NotNumber n) h refl
-  fault_case (TooFine n) h denied = bad_row (TooFine n) h refl
-  fault_case (TooLarge n) h denied = bad_row (TooLarge n) h refl
-  fault_case (BadWeight n) h denied = bad_row (BadWeight n) h refl
-  fault_case (TooManyRows n) h denied = bad_row (TooManyRows n) h refl
-  fault_case (TooHeavy n) h denied = bad_row (TooHeavy n) h refl
-  fault_case (TooManyGroups n) h denied = bad_row (TooManyGroups n) h refl
-  fault_case Memory h denied = absurd (denied refl)
-
-  headers_one : (f g : DataFault) → HasHeaderFault records f → HasHeaderFault records g → f ≡ g
-  headers_one f g h k = header_fault_one h.header f g h.found (subst (λ (t : List (List ℕ)). HeaderFault t g) (heads records h.header k.header h.later k.later h.begins k.begins) k.found)
-
-  header_not_row : (f g : DataFault) → HasHeaderFault records f → HasRowFault records settings.places g → ⊥
-  header_not_row f g h k = no_header_fault h.header f k.columns h.found (subst (λ (t : List (List ℕ)). AreColumns t k.columns) (heads records h.header k.header h.later k.later h.begins k.begins) k.are_columns)
-
-  header_not_whole : (f : DataFault) (study : Study) → HasHeaderFault records f → IsStudyOf records settings study → ⊥
-  header_not_whole f study h k = no_header_fault h.header f k.columns h.found (subst (λ (t : List (List ℕ)). AreColumns t k.columns) (heads records h.header k.header h.later k.later h.begins k.begins) k.are_columns)
-
-  row_faults_one : (f g : DataFault) → HasRowFault records settings.places f → HasRowFault records settings.places g → f ≡ g
-  row_faults_one f g h k =
-      let same : k.columns ≡ h.columns = columns_one h.header k.columns h.columns (subst (λ (t : List (List ℕ)). AreColumns t k.columns) (heads records h.header k.header h.later k.later h.begins k.begins) k.are_columns) h.are_columns in
-      let moved : HasFault settings.places k.columns h.later g = subst (λ (t : List (List (List ℕ))). HasFault settings.places k.columns t g) (tails records h.header k.header h.later k.later h.begins k.begins) k.found in
-      first_one settings.places h.columns h.later f g h.found (subst (λ (t : DataColumns). HasFault settings.places t h.later g) same moved)
-
-  row_fault_not_whole : (f : DataFault) (study : Study) → HasRowFault records settings.places f → IsStudyOf records settings study → ⊥
-  row_fault_not_whole f study h k =
-      let same : k.columns ≡ h.columns = columns_one h.header k.columns h.columns (subst (λ (t : List (List ℕ)). AreColumns t k.columns) (heads records h.header k.header h.later k.later h.begins k.begins) k.are_columns) h.are_columns in
-      let moved : AreRows settings.places k.columns h.later study.rows = subst (λ (t : List (List (List ℕ))). AreRows settings.places k.columns t study.rows) (tails records h.header k.header h.later k.later h.begins k.begins) k.rows in
-      none_first settings.places h.columns h.later f study.rows h.found (subst (λ (t : DataColumns). AreRows settings.places t h.later study.rows) same moved)
-
-  studies_one : (s t : Study) → IsStudyOf records settings s → IsStudyOf records settings t → s ≡ t
-  studies_one s t h k =
-      let same : k.columns ≡ h.columns = columns_one h.header k.columns h.columns (subst (λ (u : List (List ℕ)). AreColumns u k.columns) (heads records h.header k.header h.later k.later h.begins k.begins) k.are_columns) h.are_columns in
-      let moved : AreRows settings.places k.columns h.later t.rows = subst (λ (u : List (List (List ℕ))). AreRows settings.places k.columns u t.rows) (tails records h.header k.header h.later k.later h.begins k.begins) k.rows in
-      let rows : s.rows ≡ t.rows = rows_one settings.places h.columns h.later s.rows t.rows h.rows (subst (λ (u : DataColumns). AreRows settings.places u h.later t.rows) same moved) in
-      let set : s.settings ≡ t.settings = h.same ∙ sym k.same in
-      let pairs : s.pairs ≡ t.pairs = h.without ∙ sym k.without in
-      λ i. record { settings = set i; rows = rows i; pairs = pairs i }
-
-  by_case : (a b : Result Study DataFault) → TableCase a → TableCase b → a ≡ b
-  by_case a b (empty h e) (empty k q) = e ∙ sym q
-  by_case a b (empty h e) (bad_header g k q) = absurd (not_empty records k.header k.later h k.begins)
-  by_case a b (empty h e) (bad_row g k q) = absurd (not_empty records k.header k.later h k.begins)
-  by_case a b (empty h e) (whole t k q) = absurd (not_empty records k.header k.later h k.begins)
-  by_case a b (bad_header f h e) (empty k q) = absurd (not_empty records h.header h.later k h.begins)
-  by_case a b (bad_header f h e) (bad_header g k q) = e ∙ ap (λ (t : DataFault). Err t) (headers_one f g h k) ∙ sym q
-  by_case a b (bad_header f h e) (bad_row g k q) = absurd (header_not_row f g h k)
-  by_case a b (bad_header f h e) (whole t k q) = absurd (header_not_whole f t h k)
-  by_case a b (bad_row f h e) (empty k q) = absurd (not_empty records h.header h.later k h.begins)
-  by_case a b (bad_row f h e) (bad_header g k q) = absurd (header_not_row g f k h)
-  by_case a b (bad_row f h e) (bad_row g k q) = e ∙ ap (λ (t : DataFault). Err t) (row_faults_one f g h k) ∙ sym q
-  by_case a b (bad_row f h e) (whole t k q) = absurd (row_fault_not_whole f t h k)
-  by_case a b (whole s h e) (empty k q) = absurd (not_empty records h.header h.later k h.begins)
-  by_case a b (whole s h e) (bad_header g k q) = absurd (header_not_whole g s k h)
-  by_case a b (whole s h e) (bad_row g k q) = absurd (row_fault_not_whole g s k h)
-  by_case a b (whole s h e) (whole t k q) = e ∙ ap (λ (x : Study). Ok x) (studies_one s t h k) ∙ sym q
-
-module _ (bytes : List ℕ) (settings : Settings) where
-  table_case : (a : Result Study DataFault) → DataRead bytes settings a → (a ≡ Err Memory → ⊥) → TableCase (records_of bytes) settings a
-  table_case (Ok study) h denied = whole study h refl
-  table_case (Err fault) h denied = fault_case (records_of bytes) settings fault h (λ e. denied (ap (λ (t : DataFault). Err t) e))
-
-  pub one_table : (a b : Result Study DataFault) → DataRead bytes settings a → DataRead bytes settings b → (a ≡ Err Memory → ⊥) → (b ≡ Err Memory → ⊥) → a ≡ b
-  one_table a b h k u v = by_case (records_of bytes) settings a b (table_case a h u) (table_case b k v)
+pub one_table : (bytes : List ℕ) (settings : Settings) (a b : Result Study DataFault) → DataRead bytes settings a → DataRead bytes settings b → (a ≡ Err Memory → ⊥) → (b ≡ Err Memory → ⊥) → a ≡ b
+one_table bytes settings = one_way (data_table settings) (sure settings) (records_of bytes)

@@ -1,11 +1,12 @@
 -- The columns of a header, by the names of its fields.
-use Rattle.std.specs.Prelude.{◌≡◌, ◌<◌, ℕ, List, Option, Some, None, Result, Ok, Err, codes, slice_get}
+use Rattle.std.specs.Prelude.{◌≡◌, ◌<◌, ℕ, List, Option, Some, None, codes, slice_get}
 use Rattle.ofit_table.specs.declared.column.Column.{Column}
 use Rattle.ofit_table.specs.declared.column.Column.TheVariants.{Group, Value, Weight, Low, High}
 use Rattle.ofit_table.specs.declared.fault.DataFault.{DataFault}
-use Rattle.ofit_table.specs.declared.fault.DataFault.TheVariants.{NoHeader, NoColumn, ColumnTwice, FieldMissing, NotName, NotNumber, TooFine, TooLarge, BadWeight, TooManyRows, TooHeavy, TooManyGroups, Memory}
+use Rattle.ofit_table.specs.declared.fault.DataFault.TheVariants.{NoColumn, ColumnTwice}
 use Rattle.ofit_table.specs.declared.header.DataColumns.{DataColumns}
 
+-- what a header calls a column
 abbrev pub column_name : Column → List ℕ
 column_name Group = codes "group"
 column_name Value = codes "value"
@@ -13,6 +14,7 @@ column_name Weight = codes "weight"
 column_name Low = codes "low"
 column_name High = codes "high"
 
+-- the field at this place has the column's name
 abbrev pub IsNamedAt : List (List ℕ) → Column → ℕ → Type 0
 IsNamedAt header column place = slice_get header place ≡ Some (column_name column)
 
@@ -25,6 +27,7 @@ pub record StandsAt (header : List (List ℕ)) (column : Column) (place : ℕ) :
   pub there : IsNamedAt header column place
   pub only : (other : ℕ) → IsNamedAt header column other → other ≡ place
 
+-- just one field has the column's name
 abbrev pub StandsOnce : List (List ℕ) → Column → Type 0
 StandsOnce header column = (place : ℕ) × StandsAt header column place
 
@@ -54,24 +57,4 @@ HeaderFault header (ColumnTwice Group) = StandsTwice header Group
 HeaderFault header (NoColumn Value) = StandsOnce header Group × Lacks header Value
 HeaderFault header (ColumnTwice Value) = StandsOnce header Group × StandsTwice header Value
 HeaderFault header (ColumnTwice Weight) = StandsOnce header Group × StandsOnce header Value × StandsTwice header Weight
-HeaderFault header (NoColumn Weight) = ⊥
-HeaderFault header (NoColumn Low) = ⊥
-HeaderFault header (NoColumn High) = ⊥
-HeaderFault header (ColumnTwice Low) = ⊥
-HeaderFault header (ColumnTwice High) = ⊥
-HeaderFault header NoHeader = ⊥
-HeaderFault header (FieldMissing number) = ⊥
-HeaderFault header (NotName number) = ⊥
-HeaderFault header (NotNumber number) = ⊥
-HeaderFault header (TooFine number) = ⊥
-HeaderFault header (TooLarge number) = ⊥
-HeaderFault header (BadWeight number) = ⊥
-HeaderFault header (TooManyRows number) = ⊥
-HeaderFault header (TooHeavy number) = ⊥
-HeaderFault header (TooManyGroups number) = ⊥
-HeaderFault header Memory = ⊥
-
--- what a data table's header is read as
-abbrev pub HeaderRead : List (List ℕ) → Result DataColumns DataFault → Type 0
-HeaderRead header (Ok columns) = AreColumns header columns
-HeaderRead header (Err fault) = HeaderFault header fault
+HeaderFault header fault = ⊥

@@ -3,7 +3,8 @@ pub mod Stands
 pub mod Numbered
 pub mod Rows
 pub mod Pairs
-pub mod Reading
+pub mod TableRead
 pub mod DataRead
 pub mod PatternRead
 pub mod PairsRead
+pub mod Reading

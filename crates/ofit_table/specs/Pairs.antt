@@ -1,10 +1,10 @@
 -- The pairs of an order file.
-use Rattle.std.specs.Prelude.{◌≡◌, ◌≢◌, ◌≤◌, ◌+◌, ◌⊎◌, ◌↔◌, ◌++◌, ◌∷◌, ℕ, List, Some, Result, Ok, Err, All, AllPairs, Contains, length, slice_get}
+use Rattle.std.specs.Prelude.{◌≡◌, ◌≢◌, ◌≤◌, ◌⊎◌, ◌↔◌, ℕ, List, Some, All, AllPairs, Contains, length, slice_get}
 use Rattle.std.specs.List.{AllZip}
 use Rattle.ofit_study.specs.Study.{most_pairs}
-use Rattle.ofit_table.specs.declared.column.Column.TheVariants.{Group, Value, Weight, Low, High}
+use Rattle.ofit_table.specs.declared.column.Column.TheVariants.{Low, High}
 use Rattle.ofit_table.specs.declared.fault.OrderFault.{OrderFault}
-use Rattle.ofit_table.specs.declared.fault.OrderFault.TheVariants.{NoHeader, NoColumn, ColumnTwice, FieldMissing, UnknownGroup, TooManyPairs, NoGroup, Memory}
+use Rattle.ofit_table.specs.declared.fault.OrderFault.TheVariants.{NoColumn, ColumnTwice, FieldMissing, UnknownGroup, TooManyPairs}
 use Rattle.ofit_table.specs.declared.header.OrderColumns.{OrderColumns}
 use Rattle.ofit_table.specs.Columns.{Lacks, StandsAt, StandsOnce, StandsTwice}
 
@@ -19,23 +19,7 @@ OrderHeaderFault header (NoColumn Low) = Lacks header Low
 OrderHeaderFault header (ColumnTwice Low) = StandsTwice header Low
 OrderHeaderFault header (NoColumn High) = StandsOnce header Low × Lacks header High
 OrderHeaderFault header (ColumnTwice High) = StandsOnce header Low × StandsTwice header High
-OrderHeaderFault header (NoColumn Group) = ⊥
-OrderHeaderFault header (NoColumn Value) = ⊥
-OrderHeaderFault header (NoColumn Weight) = ⊥
-OrderHeaderFault header (ColumnTwice Group) = ⊥
-OrderHeaderFault header (ColumnTwice Value) = ⊥
-OrderHeaderFault header (ColumnTwice Weight) = ⊥
-OrderHeaderFault header NoHeader = ⊥
-OrderHeaderFault header (FieldMissing number) = ⊥
-OrderHeaderFault header (UnknownGroup number) = ⊥
-OrderHeaderFault header (TooManyPairs number) = ⊥
-OrderHeaderFault header NoGroup = ⊥
-OrderHeaderFault header Memory = ⊥
-
--- what an order file's header is read as
-abbrev pub OrderHeaderRead : List (List ℕ) → Result OrderColumns OrderFault → Type 0
-OrderHeaderRead header (Ok columns) = AreOrderColumns header columns
-OrderHeaderRead header (Err fault) = OrderHeaderFault header fault
+OrderHeaderFault header fault = ⊥
 
 -- the names that a record relates
 pub record AreEnds (columns : OrderColumns) (fields : List (List ℕ)) (low high : List ℕ) : Type 0 where
@@ -67,16 +51,11 @@ abbrev pub IsUnknown : List (List ℕ) → List ℕ → Type 0
 IsUnknown names name = All (λ known. known ≢ name) names
 
 -- the first fault of a record with this number alone
-abbrev pub PairFault : OrderColumns → List (List ℕ) → List (List ℕ) → ℕ → OrderFault → Type 0
-PairFault columns names fields number (FieldMissing n) = (n ≡ number) × ((length fields ≤ columns.low) ⊎ (length fields ≤ columns.high))
-PairFault columns names fields number (UnknownGroup n) =
+abbrev pub OwnPairFault : OrderColumns → List (List ℕ) → List (List ℕ) → ℕ → OrderFault → Type 0
+OwnPairFault columns names fields number (FieldMissing n) = (n ≡ number) × ((length fields ≤ columns.low) ⊎ (length fields ≤ columns.high))
+OwnPairFault columns names fields number (UnknownGroup n) =
     (n ≡ number) × (low : List ℕ) × (high : List ℕ) × AreEnds columns fields low high × (IsUnknown names low ⊎ IsUnknown names high)
-PairFault columns names fields number (TooManyPairs n) = ⊥
-PairFault columns names fields number NoHeader = ⊥
-PairFault columns names fields number (NoColumn column) = ⊥
-PairFault columns names fields number (ColumnTwice column) = ⊥
-PairFault columns names fields number NoGroup = ⊥
-PairFault columns names fields number Memory = ⊥
+OwnPairFault columns names fields number fault = ⊥
 
 -- a record with this number and without a fault of its own whose pair is new behind as many pairs as there may be
 pub record IsPairTooMany (columns : OrderColumns) (names : List (List ℕ)) (before : List (ℕ × ℕ)) (fields : List (List ℕ)) (number : ℕ) (fault : OrderFault) : Type 0 where
@@ -88,12 +67,6 @@ pub record IsPairTooMany (columns : OrderColumns) (names : List (List ℕ)) (bef
   pub distinct : AreDistinct before known
   pub full : most_pairs ≤ length known
 
--- the first of the records behind the header that has a fault, and this one; the header has the number 1
-pub record HasPairFault (columns : OrderColumns) (names : List (List ℕ)) (records : List (List (List ℕ))) (fault : OrderFault) : Type 0 where
-  pub before : List (List (List ℕ))
-  pub fields : List (List ℕ)
-  pub after : List (List (List ℕ))
-  pub pairs : List (ℕ × ℕ)
-  pub spells : records ≡ before ++ fields ∷ after
-  pub fine : ArePairs columns names before pairs
-  pub found : PairFault columns names fields (length before + 2) fault ⊎ IsPairTooMany columns names pairs fields (length before + 2) fault
+-- the first fault of a record with this number behind these pairs: its own, or else that its pair is one too many
+abbrev pub PairFault : OrderColumns → List (List ℕ) → List (ℕ × ℕ) → List (List ℕ) → ℕ → OrderFault → Type 0
+PairFault columns names before fields number fault = OwnPairFault columns names fields number fault ⊎ IsPairTooMany columns names before fields number fault

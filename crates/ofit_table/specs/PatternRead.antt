@@ -5,7 +5,7 @@ use Rattle.ofit_study.specs.declared.pattern.Pattern.{Pattern}
 use Rattle.ofit_study.specs.declared.pattern.Pattern.TheVariants.{NoPairs, Chain, Umbrella, Tree}
 use Rattle.ofit_study.specs.Study.{HasPairs, Study, names_of}
 use Rattle.ofit_table.specs.declared.fault.OrderFault.{OrderFault}
-use Rattle.ofit_table.specs.declared.fault.OrderFault.TheVariants.{NoHeader, NoColumn, ColumnTwice, FieldMissing, UnknownGroup, TooManyPairs, NoGroup, Memory}
+use Rattle.ofit_table.specs.declared.fault.OrderFault.TheVariants.{NoGroup, Memory}
 
 -- a pattern's pairs by the places of these names; none where its group isn't among them
 abbrev pub ArePatternPairs : Pattern → List (List ℕ) → Result (List (ℕ × ℕ)) OrderFault → Type 0
@@ -15,15 +15,8 @@ ArePatternPairs (Umbrella name) names (Ok pairs) = (peak : ℕ) × (slice_get na
 ArePatternPairs (Tree name) names (Ok pairs) = (root : ℕ) × (slice_get names root ≡ Some name) × (pairs ≡ tree_pairs root (length names))
 ArePatternPairs (Umbrella name) names (Err NoGroup) = All (λ known. known ≢ name) names
 ArePatternPairs (Tree name) names (Err NoGroup) = All (λ known. known ≢ name) names
-ArePatternPairs NoPairs names (Err NoGroup) = ⊥
-ArePatternPairs Chain names (Err NoGroup) = ⊥
-ArePatternPairs pattern names (Err NoHeader) = ⊥
-ArePatternPairs pattern names (Err (NoColumn column)) = ⊥
-ArePatternPairs pattern names (Err (ColumnTwice column)) = ⊥
-ArePatternPairs pattern names (Err (FieldMissing number)) = ⊥
-ArePatternPairs pattern names (Err (UnknownGroup number)) = ⊥
-ArePatternPairs pattern names (Err (TooManyPairs number)) = ⊥
 ArePatternPairs pattern names (Err Memory) = ⊤
+ArePatternPairs pattern names (Err fault) = ⊥
 
 -- the study with the pattern's pairs in place of its own, or why there is none
 abbrev pub PatternRead : Pattern → Study → Result Study OrderFault → Type 0

@@ -7,15 +7,29 @@ use Rattle.ofit_study.specs.declared.fault.AddFault.{AddFault}
 use Rattle.ofit_study.specs.declared.fault.AddFault.TheVariants as add
 use Rattle.ofit_study.specs.declared.settings.Settings.{Settings}
 use Rattle.ofit_table.specs.Numbered.{AreNumbered}
-use Rattle.ofit_study.specs.Study.{GainsRow, Study, most_pairs}
+use Rattle.ofit_study.specs.Study.{GainsRow, Study, most_pairs, names_of}
 use Rattle.ofit_table.specs.declared.fault.DataFault.{DataFault}
 use Rattle.ofit_table.specs.declared.fault.DataFault.TheVariants.{NotNumber, TooFine, TooLarge, TooManyRows, TooHeavy, TooManyGroups, Memory}
 use Rattle.ofit_table.specs.declared.fault.OrderFault.{OrderFault}
 use Rattle.ofit_table.specs.declared.fault.OrderFault.TheVariants as order
 use Rattle.ofit_table.specs.declared.header.DataColumns.{DataColumns}
 use Rattle.ofit_table.specs.declared.header.OrderColumns.{OrderColumns}
-use Rattle.ofit_table.specs.Pairs.{AreDistinct, HasPairFault, IsPair}
-use Rattle.ofit_table.specs.Rows.{AreRows, HasFault, IsGood, IsRow}
+use Rattle.ofit_table.specs.Columns.{AreColumns, HeaderFault}
+use Rattle.ofit_table.specs.DataRead.{data_table}
+use Rattle.ofit_table.specs.Pairs.{AreDistinct, AreOrderColumns, IsPair, OrderHeaderFault}
+use Rattle.ofit_table.specs.PairsRead.{order_table}
+use Rattle.ofit_table.specs.Rows.{AreRows, IsGood, IsRow}
+use Rattle.ofit_table.specs.TableRead.{HasFault}
+
+-- what a data table's header is read as
+abbrev pub HeaderRead : List (List ℕ) → Result DataColumns DataFault → Type 0
+HeaderRead header (Ok columns) = AreColumns header columns
+HeaderRead header (Err fault) = HeaderFault header fault
+
+-- what an order file's header is read as
+abbrev pub OrderHeaderRead : List (List ℕ) → Result OrderColumns OrderFault → Type 0
+OrderHeaderRead header (Ok columns) = AreOrderColumns header columns
+OrderHeaderRead header (Err fault) = OrderHeaderFault header fault
 
 -- the fault of a record with this number whose value isn't read
 abbrev pub value_fault : NumFault → ℕ → DataFault
@@ -50,7 +64,7 @@ pub record IsSoFar (columns : DataColumns) (records left : List (List (List ℕ)
 -- what the records behind the header are read as
 abbrev pub RowsRead : DataColumns → List (List (List ℕ)) → Settings → Result Study DataFault → Type 0
 RowsRead columns records settings (Ok study) = AreRows settings.places columns records study.rows × (study.settings ≡ settings) × (study.pairs ≡ [])
-RowsRead columns records settings (Err fault) = (fault ≡ Memory) ⊎ HasFault settings.places columns records fault
+RowsRead columns records settings (Err fault) = (fault ≡ Memory) ⊎ HasFault (data_table settings) columns records fault
 
 -- so far these pairs were read, which are known each once
 pub record IsReadSoFar (columns : OrderColumns) (names : List (List ℕ)) (records left : List (List (List ℕ))) (number : ℕ) (known : List (ℕ × ℕ)) : Type 0 where
@@ -63,10 +77,10 @@ pub record IsReadSoFar (columns : OrderColumns) (names : List (List ℕ)) (recor
   pub next : number ≡ length done + 2
 
 -- what the records behind the header of an order file are read as: their pairs, each once
-abbrev pub KnownRead : OrderColumns → List (List ℕ) → List (List (List ℕ)) → Result (List (ℕ × ℕ)) OrderFault → Type 0
-KnownRead columns names records (Ok known) =
-    (pairs : List (ℕ × ℕ)) × AllZip (IsPair columns names) records pairs × AreDistinct pairs known × (length known ≤ most_pairs)
-KnownRead columns names records (Err fault) = (fault ≡ order.Memory) ⊎ HasPairFault columns names records fault
+abbrev pub KnownRead : OrderColumns → Study → List (List (List ℕ)) → Result (List (ℕ × ℕ)) OrderFault → Type 0
+KnownRead columns study records (Ok known) =
+    (pairs : List (ℕ × ℕ)) × AllZip (IsPair columns (names_of study)) records pairs × AreDistinct pairs known × (length known ≤ most_pairs)
+KnownRead columns study records (Err fault) = (fault ≡ order.Memory) ⊎ HasFault (order_table study) columns records fault
 
 -- the pairs with a further one, if it is new
 abbrev pub KnowsPair : List (ℕ × ℕ) → ℕ × ℕ → List (ℕ × ℕ) → Type 0

@@ -1,5 +1,5 @@
 -- The rows of a data table.
-use Rattle.std.specs.Prelude.{◌≡◌, ◌≢◌, ◌≤◌, ◌<◌, ◌+◌, ◌⊎◌, ◌++◌, ◌∷◌, ℕ, ℤ, List, Option, Some, None, Err, All, length, slice_get, ⊤}
+use Rattle.std.specs.Prelude.{◌≡◌, ◌≢◌, ◌≤◌, ◌<◌, ◌+◌, ◌⊎◌, ℕ, ℤ, List, Option, Some, None, Err, All, length, slice_get, ⊤}
 use Rattle.std.specs.List.{AllZip}
 use Rattle.ofit_num.specs.declared.decimal.NumFault.{NumFault}
 use Rattle.ofit_num.specs.declared.decimal.NumFault.TheVariants as num
@@ -9,7 +9,7 @@ use Rattle.ofit_table.specs.Numbered.{AreNumbered}
 use Rattle.ofit_study.specs.Name.{IsName}
 use Rattle.ofit_study.specs.Study.{Observation, group_names, most_groups, most_rows, total_weight}
 use Rattle.ofit_table.specs.declared.fault.DataFault.{DataFault}
-use Rattle.ofit_table.specs.declared.fault.DataFault.TheVariants.{NoHeader, NoColumn, ColumnTwice, FieldMissing, NotName, NotNumber, TooFine, TooLarge, BadWeight, TooManyRows, TooHeavy, TooManyGroups, Memory}
+use Rattle.ofit_table.specs.declared.fault.DataFault.TheVariants.{FieldMissing, NotName, NotNumber, TooFine, TooLarge, BadWeight, TooManyRows, TooHeavy, TooManyGroups}
 use Rattle.ofit_table.specs.declared.header.DataColumns.{DataColumns}
 
 -- the fields of a record that are used
@@ -21,15 +21,16 @@ pub record Texts : Type 0 where
 -- the weight's field, where there is a weight column
 abbrev pub IsWeightText : Option ℕ → List (List ℕ) → Option (List ℕ) → Type 0
 IsWeightText None fields None = ⊤
-IsWeightText None fields (Some text) = ⊥
-IsWeightText (Some place) fields None = ⊥
 IsWeightText (Some place) fields (Some text) = slice_get fields place ≡ Some text
+IsWeightText place fields text = ⊥
 
+-- these are the fields of the record that are used
 pub record AreTexts (columns : DataColumns) (fields : List (List ℕ)) (texts : Texts) : Type 0 where
   pub group : slice_get fields columns.group ≡ Some texts.group
   pub value : slice_get fields columns.value ≡ Some texts.value
   pub weight : IsWeightText columns.weight fields texts.weight
 
+-- the record is too short for a column that may be left out
 abbrev pub IsShortOf : Option ℕ → List (List ℕ) → Type 0
 IsShortOf None fields = ⊥
 IsShortOf (Some place) fields = length fields ≤ place
@@ -83,13 +84,7 @@ OwnFault places columns fields number (TooLarge n) = (n ≡ number) × HasValueF
 OwnFault places columns fields number (BadWeight n) =
     (n ≡ number) × (texts : Texts) × AreNamed columns fields texts × ((value : ℤ) × IsValue places texts.value value)
     × ((weight : ℕ) → IsRowWeight texts.weight weight → ⊥)
-OwnFault places columns fields number NoHeader = ⊥
-OwnFault places columns fields number (NoColumn column) = ⊥
-OwnFault places columns fields number (ColumnTwice column) = ⊥
-OwnFault places columns fields number (TooManyRows n) = ⊥
-OwnFault places columns fields number (TooHeavy n) = ⊥
-OwnFault places columns fields number (TooManyGroups n) = ⊥
-OwnFault places columns fields number Memory = ⊥
+OwnFault places columns fields number fault = ⊥
 
 -- the first limit that a row of this group and weight passes behind these rows
 abbrev pub LimitFault : List Observation → List ℕ → ℕ → ℕ → DataFault → Type 0
@@ -98,16 +93,7 @@ LimitFault before group weight number (TooHeavy n) = (n ≡ number) × (length b
 LimitFault before group weight number (TooManyGroups n) =
     (n ≡ number) × (length before < most_rows) × (total_weight before + weight ≤ MOST_WEIGHT)
     × All (λ known. known ≢ group) (group_names before) × (most_groups ≤ length (group_names before))
-LimitFault before group weight number NoHeader = ⊥
-LimitFault before group weight number (NoColumn column) = ⊥
-LimitFault before group weight number (ColumnTwice column) = ⊥
-LimitFault before group weight number (FieldMissing n) = ⊥
-LimitFault before group weight number (NotName n) = ⊥
-LimitFault before group weight number (NotNumber n) = ⊥
-LimitFault before group weight number (TooFine n) = ⊥
-LimitFault before group weight number (TooLarge n) = ⊥
-LimitFault before group weight number (BadWeight n) = ⊥
-LimitFault before group weight number Memory = ⊥
+LimitFault before group weight number fault = ⊥
 
 -- a record without a fault of its own whose row passes a limit behind these rows
 pub record IsTooMuch (places : ℕ) (columns : DataColumns) (before : List Observation) (fields : List (List ℕ)) (number : ℕ) (fault : DataFault) : Type 0 where
@@ -120,13 +106,3 @@ pub record IsTooMuch (places : ℕ) (columns : DataColumns) (before : List Obser
 -- the first fault of a record with this number behind these rows: its own, or else the limit that it passes
 abbrev pub RowFault : ℕ → DataColumns → List Observation → List (List ℕ) → ℕ → DataFault → Type 0
 RowFault places columns before fields number fault = OwnFault places columns fields number fault ⊎ IsTooMuch places columns before fields number fault
-
--- the first of the records behind the header that has a fault, and this one; the header has the number 1
-pub record HasFault (places : ℕ) (columns : DataColumns) (records : List (List (List ℕ))) (fault : DataFault) : Type 0 where
-  pub before : List (List (List ℕ))
-  pub fields : List (List ℕ)
-  pub after : List (List (List ℕ))
-  pub rows : List Observation
-  pub spells : records ≡ before ++ fields ∷ after
-  pub fine : AreRows places columns before rows
-  pub found : RowFault places columns rows fields (length rows + 2) fault

@@ -1,7 +1,7 @@
 ghost use Rattle.std.specs.Prelude.{◌≡◌, ◌+◌, ◌^◌, ◌≤◌, ◌<◌, ℕ, true, false, length, IfSome, IfNone};
 ghost use Rattle.csv.specs.Records.{fields_of};
-ghost use Rattle.ofit_table.specs.Columns.{IsNamedAt, HeaderRead};
-ghost use Rattle.ofit_table.specs.Pairs.{OrderHeaderRead};
+ghost use Rattle.ofit_table.specs.Columns.{IsNamedAt};
+ghost use Rattle.ofit_table.specs.Reading.{HeaderRead, OrderHeaderRead};
 ghost use Rattle.ofit_table.specs.Stands.{IsStanding};
 
 use crate::column::Column;

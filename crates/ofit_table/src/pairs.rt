@@ -1,9 +1,9 @@
-ghost use Rattle.std.specs.Prelude.{◌≡◌, ◌≤◌, ◌⊎◌, IfErr, IfOk, OnOk, length};
+ghost use Rattle.std.specs.Prelude.{◌≡◌, ◌≤◌, ◌+◌, ◌⊎◌, IfErr, IfOk, OnOk, length};
 ghost use Rattle.csv.specs.Records.{fields_of};
 ghost use Rattle.ofit_num.specs.declared.limits.TheConstants.{LONGEST_FILE};
 ghost use Rattle.ofit_study.specs.Study.{most_pairs, names_of};
 ghost use Rattle.ofit_table.specs.declared.fault.OrderFault.TheVariants.{Memory};
-ghost use Rattle.ofit_table.specs.Pairs.{IsPair, PairFault};
+ghost use Rattle.ofit_table.specs.Pairs.{IsPair, OwnPairFault};
 ghost use Rattle.ofit_table.specs.PairsRead.{PairsRead};
 ghost use Rattle.ofit_table.specs.Reading.{IsNotTaken, KnownRead, KnowsPair};
 
@@ -24,7 +24,7 @@ fn read_pair(
     number: u32,
 ) -> Result<(u32, u32), OrderFault>
     ensures ok { IfOk result (λ pair. IsPair columns (names_of study.now) (fields_of row.now) pair) }
-    ensures err { IfErr result (λ fault. PairFault columns (names_of study.now) (fields_of row.now) number fault) }
+    ensures err { IfErr result (λ fault. OwnPairFault columns (names_of study.now) (fields_of row.now) number fault) }
 {
     let Some(low) = field_of(row, columns.low) else {
         return Err(OrderFault::FieldMissing(number));
@@ -67,8 +67,8 @@ fn read_known(
     columns: OrderColumns,
     study: &Study,
 ) -> Result<PairSet, OrderFault>
-    requires { length records ≤ 33554433 }
-    ensures { KnownRead columns (names_of study.now) records.entry result }
+    requires { length records ≤ LONGEST_FILE + 1 }
+    ensures { KnownRead columns study.now records.entry result }
 {
     let mut known = PairSet::new(alloc);
     let mut row = ByteRecord::new(alloc);

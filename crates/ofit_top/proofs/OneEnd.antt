@@ -15,7 +15,7 @@ use Rattle.ofit_fit.proofs.Fitted.{one_count}
 use Rattle.ofit_check.specs.declared.verdict.Verdict.{Verdict}
 use Rattle.ofit_check.specs.declared.verdict.Verdict.TheVariants as verdicts
 use Rattle.ofit_check.specs.Told.{told}
-use Rattle.ofit_report.specs.ReportText.{ReportText}
+use Rattle.ofit_report.specs.ReportOf.{IsReportOf}
 use Rattle.ofit_script.specs.declared.line.Line.{Line}
 use Rattle.ofit_script.specs.declared.line.Line.TheVariants as line
 use Rattle.ofit_script.specs.ScriptGives.{ScriptGives}
@@ -34,7 +34,6 @@ use Rattle.ofit_answer.specs.PeakVerdictText.{peak_verdict_text}
 use Rattle.ofit_answer.specs.declared.answer.Answer.{Answer}
 use Rattle.ofit_top.specs.Flows.{HasFlows}
 use Rattle.ofit_top.specs.Job.{JobGives, HasFits}
-use Rattle.ofit_top.specs.Report.{IsReportOf}
 use Rattle.ofit_top.specs.Verify.{answer_to, VerifyGives}
 use Rattle.ofit_top.specs.VerifyUnimodal.{peak_answer_to, VerifyUnimodalGives}
 use Rattle.ofit_top.proofs.OnePeakVerdict.{one_peak_verdict}
@@ -140,26 +139,17 @@ one_fits scripts samples (VerifyUnimodal s peaked) v n m x y = x ∙ sym y
 one_fits scripts samples (Levels k) v n m x y = x ∙ sym y
 one_fits scripts samples (Sample made) v n m x y = samples made x.0 y.0 n m x.1 y.1 x.2 y.2
 
--- the least best values are one list, which has one report
-abbrev pub ValuesAreOne : Type 0
-ValuesAreOne = (m : Meaning) (s : Problem) (fs hs : List Fraction) → All IsLowest fs → All IsLowest hs → LeastBestValues m s fs → LeastBestValues m s hs → fs ≡ hs
-
+-- a study has one report
 abbrev pub ReportsAreOne : Type 0
-ReportsAreOne = (s : Study) (values : List Fraction) (a b : List ℕ) → All IsLowest values → ReportText s values a → ReportText s values b → a ≡ b
-
-one_report : ValuesAreOne → ReportsAreOne → (s : Study) (t u : List ℕ) → IsReportOf s t → IsReportOf s u → t ≡ u
-one_report values reports s t u x y = reports s x.values t u x.lowest x.printed (subst (λ (fs : List Fraction). ReportText s fs u) same y.printed)
-  where
-    same : y.values ≡ x.values
-    same = values (meaning_of s.settings.loss) (problem_stated s) y.values x.values y.lowest x.lowest y.least_best x.least_best
+ReportsAreOne = (s : Study) (t u : List ℕ) → IsReportOf s t → IsReportOf s u → t ≡ u
 
 -- a job whose text holds no flows
-pub one_text : ValuesAreOne → ReportsAreOne → ScriptTextsAreOne → SampleTextsAreOne → (ready : Ready) → IsSound ready → (a b : Answer) (t u : List ℕ) → (HasFlows ready → ⊥) → JobGives ready a t → JobGives ready b u → t ≡ u
-one_text values reports scripts samples (Fit s) v a b t u n x y = absurd (n tt)
-one_text values reports scripts samples (Report s) v a b t u n x y = one_report values reports s t u x.1 y.1
-one_text values reports scripts samples (Session s lines) v a b t u n x y = scripts s v 1 lines x.1.0 y.1.0 t u x.1.1 y.1.1 n x.1.2 y.1.2
-one_text values reports scripts samples (Unimodal s) v a b t u n x y = absurd (n tt)
-one_text values reports scripts samples (Sample made) v a b t u n x y = samples made t u x.1 y.1
-one_text values reports scripts samples (Verify s sheet) v a b t u n x y = x.line ∙ ap (verdict_text s) (one_said s sheet a b t u x y) ∙ sym y.line
-one_text values reports scripts samples (VerifyUnimodal s peaked) v a b t u n x y = x.line ∙ ap (peak_verdict_text s) (one_peak_said s peaked a b t u x y) ∙ sym y.line
-one_text values reports scripts samples (Levels k) v a b t u n x y = x.1 ∙ sym y.1
+pub one_text : ReportsAreOne → ScriptTextsAreOne → SampleTextsAreOne → (ready : Ready) → IsSound ready → (a b : Answer) (t u : List ℕ) → (HasFlows ready → ⊥) → JobGives ready a t → JobGives ready b u → t ≡ u
+one_text reports scripts samples (Fit s) v a b t u n x y = absurd (n tt)
+one_text reports scripts samples (Report s) v a b t u n x y = reports s t u x.1 y.1
+one_text reports scripts samples (Session s lines) v a b t u n x y = scripts s v 1 lines x.1.0 y.1.0 t u x.1.1 y.1.1 n x.1.2 y.1.2
+one_text reports scripts samples (Unimodal s) v a b t u n x y = absurd (n tt)
+one_text reports scripts samples (Sample made) v a b t u n x y = samples made t u x.1 y.1
+one_text reports scripts samples (Verify s sheet) v a b t u n x y = x.line ∙ ap (verdict_text s) (one_said s sheet a b t u x y) ∙ sym y.line
+one_text reports scripts samples (VerifyUnimodal s peaked) v a b t u n x y = x.line ∙ ap (peak_verdict_text s) (one_peak_said s peaked a b t u x y) ∙ sym y.line
+one_text reports scripts samples (Levels k) v a b t u n x y = x.1 ∙ sym y.1

@@ -1,10 +1,10 @@
 -- A peaked sheet has at most one verdict.
-use Rattle.std.proofs.Common.{◌≡◌, ℕ, zero, suc, ◌+◌, ◌-◌, ◌<◌, ◌≤◌, inl, inr, refl, sym, ap, ap₂, subst, ◌∙◌, arith}
+use Rattle.std.proofs.Common.{◌≡◌, ℕ, zero, suc, ◌+◌, ◌-◌, ◌<◌, ◌≤◌, inl, inr, refl, sym, ap, ap₂, subst, ◌∙◌, arith, below_more}
 use Rattle.std.proofs.lemmas.Bool.{cases_order}
 use Rattle.std.specs.Prelude.{⊤}
 use Rattle.ofit_num.specs.Problem.{Problem}
 use Rattle.ofit_num.specs.Verdict.{AllBelow, FailsFirst}
-use Rattle.ofit_num.proofs.Verdicts.{FailsFirst-same}
+use Rattle.ofit_num.proofs.Verdicts.{FailsFirst-same, not_all, one_depth}
 use Rattle.ofit_sheet.specs.Peaked.{Peaked}
 use Rattle.ofit_sheet.specs.PeakVerdict.{
   PeakVerdict,
@@ -39,9 +39,6 @@ depth (fall_breaks i g) = 4
 depth (not_least i) = 5
 depth passes = 6
 
-broken : (P : ℕ → Type 0) (n i : ℕ) → FailsFirst P n i → AllBelow P n → ⊥
-broken P n i f h = f.fails (h i f.below)
-
 module _ (s : Problem) (own : ℕ) (x : Peaked) where
   -- the things that are looked at, numbered
   abbrev Item : ℕ → Type 0
@@ -53,44 +50,38 @@ module _ (s : Problem) (own : ℕ) (x : Peaked) where
   Item (suc (suc (suc (suc (suc zero))))) = AllBelow (IsReached s x) (suc s.count)
   Item (suc (suc (suc (suc (suc (suc n)))))) = ⊤
 
-  one_more : (n : ℕ) → ((k : ℕ) → k < n → Item k) → Item n → (k : ℕ) → k < suc n → Item k
-  one_more n h i k l = elim (cases_order k n) [
-    | inl e ↦ subst Item (sym e) i
-    | inr o ↦ elim o [ inl b ↦ h k b | inr b ↦ absurd (omega arith) ]
-  ]
-
   none : (k : ℕ) → k < 0 → Item k
   none k l = absurd (omega arith)
 
   peaked : IsPeaked s own x → (k : ℕ) → k < 2 → Item k
-  peaked r = one_more 1 (one_more 0 none r.settings) r.shape
+  peaked r = below_more Item 1 (below_more Item 0 none r.settings) r.shape
 
   costed : IsCosted s own x → (k : ℕ) → k < 3 → Item k
-  costed r = one_more 2 (peaked r.peaked) r.cost
+  costed r = below_more Item 2 (peaked r.peaked) r.cost
 
   rises : HasRises s own x → (k : ℕ) → k < 4 → Item k
-  rises r = one_more 3 (costed r.costed) r.rises
+  rises r = below_more Item 3 (costed r.costed) r.rises
 
   falls : HasFalls s own x → (k : ℕ) → k < 5 → Item k
-  falls r = one_more 4 (rises r.rises) r.falls
+  falls r = below_more Item 4 (rises r.rises) r.falls
 
   past : (v : PeakVerdict) → IsPeakVerdict s own x v → (k : ℕ) → k < depth v → Item k
   past settings_differ h = none
-  past (shape_breaks g) h = one_more 0 none h.0
+  past (shape_breaks g) h = below_more Item 0 none h.0
   past cost_differs h = peaked h.0
   past (rise_breaks i g) h = costed h.0
   past (fall_breaks i g) h = rises h.0
   past (not_least i) h = falls h.0
-  past passes h = one_more 5 (falls h.sides) h.least
+  past passes h = below_more Item 5 (falls h.sides) h.least
 
   -- what the verdict says isn't in order
   at_fault : (v : PeakVerdict) → IsPeakVerdict s own x v → depth v < 6 → Item (depth v) → ⊥
   at_fault settings_differ h l i = h i
-  at_fault (shape_breaks g) h l i = broken (KeepsShape x) (s.count - 1) g h.1 i
+  at_fault (shape_breaks g) h l i = not_all (KeepsShape x) (s.count - 1) g h.1 i
   at_fault cost_differs h l i = h.1 i
-  at_fault (rise_breaks k g) h l i = broken (KeepsRise s x k) k g h.1.fails (i k h.1.from_one h.1.most)
-  at_fault (fall_breaks k g) h l i = broken (KeepsFall s x k) (s.count - k) h.1.step h.1.fails (i k h.1.most)
-  at_fault (not_least k) h l i = broken (IsReached s x) (suc s.count) k h.1 i
+  at_fault (rise_breaks k g) h l i = not_all (KeepsRise s x k) k g h.1.fails (i k h.1.from_one h.1.most)
+  at_fault (fall_breaks k g) h l i = not_all (KeepsFall s x k) (s.count - k) h.1.step h.1.fails (i k h.1.most)
+  at_fault (not_least k) h l i = not_all (IsReached s x) (suc s.count) k h.1 i
   at_fault passes h l i = absurd (omega arith)
 
   depth_le : (v : PeakVerdict) → depth v ≤ 6
@@ -102,22 +93,13 @@ module _ (s : Problem) (own : ℕ) (x : Peaked) where
   depth_le (not_least i) = omega arith
   depth_le passes = omega arith
 
-  same_depth : (v w : PeakVerdict) → IsPeakVerdict s own x v → IsPeakVerdict s own x w → depth v ≡ depth w
-  same_depth v w h k = elim (cases_order (depth v) (depth w)) [
-    | inl e ↦ e
-    | inr o ↦ elim o [
-      | inl l ↦ absurd (at_fault v h (omega (arith, depth_le w)) (past w k (depth v) l))
-      | inr l ↦ absurd (at_fault w k (omega (arith, depth_le v)) (past v h (depth w) l))
-    ]
-  ]
-
   -- the first side that breaks a rule is one, and so is its first group that does
   one_rise : (i j g k : ℕ) → BreaksRise s x i g → BreaksRise s x j k → rise_breaks i g ≡ rise_breaks j k
   one_rise i j g k f h = elim (cases_order i j) [
     | inl e ↦ at e
     | inr o ↦ elim o [
-      | inl l ↦ absurd (broken (KeepsRise s x i) i g f.fails (h.before i f.from_one l))
-      | inr l ↦ absurd (broken (KeepsRise s x j) j k h.fails (f.before j h.from_one l))
+      | inl l ↦ absurd (not_all (KeepsRise s x i) i g f.fails (h.before i f.from_one l))
+      | inr l ↦ absurd (not_all (KeepsRise s x j) j k h.fails (f.before j h.from_one l))
     ]
   ]
     where
@@ -128,8 +110,8 @@ module _ (s : Problem) (own : ℕ) (x : Peaked) where
   one_fall i j g k f h = elim (cases_order i j) [
     | inl e ↦ at e
     | inr o ↦ elim o [
-      | inl l ↦ absurd (broken (KeepsFall s x i) (s.count - i) f.step f.fails (h.before i l))
-      | inr l ↦ absurd (broken (KeepsFall s x j) (s.count - j) h.step h.fails (f.before j l))
+      | inl l ↦ absurd (not_all (KeepsFall s x i) (s.count - i) f.step f.fails (h.before i l))
+      | inr l ↦ absurd (not_all (KeepsFall s x j) (s.count - j) h.step h.fails (f.before j l))
     ]
   ]
     where
@@ -150,4 +132,4 @@ module _ (s : Problem) (own : ℕ) (x : Peaked) where
   at_one_depth v w h k e = absurd (omega arith)
 
   pub one_peak_verdict : (v w : PeakVerdict) → IsPeakVerdict s own x v → IsPeakVerdict s own x w → v ≡ w
-  one_peak_verdict v w h k = at_one_depth v w h k (same_depth v w h k)
+  one_peak_verdict v w h k = at_one_depth v w h k (one_depth Item (IsPeakVerdict s own x) depth 6 past at_fault depth_le v w h k)

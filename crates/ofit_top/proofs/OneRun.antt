@@ -14,7 +14,7 @@ use Rattle.ofit_input.specs.Ready.{ReadyGives}
 use Rattle.ofit_answer.specs.declared.answer.Answer.{Answer}
 use Rattle.ofit_top.specs.Flows.{HasFlows}
 use Rattle.ofit_top.specs.Run.{IsBare, FilesGive, WordsGive, RunGives, AskFor}
-use Rattle.ofit_top.proofs.OneEnd.{IsSound, ValuesAreOne, ReportsAreOne, ScriptFitsAreOne, ScriptTextsAreOne, SampleFitsAreOne, SampleTextsAreOne, one_answer, one_fits, one_text}
+use Rattle.ofit_top.proofs.OneEnd.{IsSound, ReportsAreOne, ScriptFitsAreOne, ScriptTextsAreOne, SampleFitsAreOne, SampleTextsAreOne, one_answer, one_fits, one_text}
 
 -- words have one reading
 abbrev pub WordsAreOne : List (List ℕ) → Type 0
@@ -49,7 +49,7 @@ sound held (job.Levels k) (Session s lines) x = absurd x
 sound held (job.Sample made) (Session s lines) x = absurd x
 sound held named ready x = tt
 
-module _ (values : ValuesAreOne) (reports : ReportsAreOne) (script_fits : ScriptFitsAreOne) (script_texts : ScriptTextsAreOne) (sample_fits : SampleFitsAreOne) (sample_texts : SampleTextsAreOne) (h : Held) (jobs : JobsAreOne h)
+module _ (reports : ReportsAreOne) (script_fits : ScriptFitsAreOne) (script_texts : ScriptTextsAreOne) (sample_fits : SampleFitsAreOne) (sample_texts : SampleTextsAreOne) (h : Held) (jobs : JobsAreOne h)
     (words : List (List ℕ)) where
   same_files : (named : Job) → WordsRead words (Ok named) → (given : Result Ready Refusal) (a b : Answer) (t u : List ℕ) (n m : ℕ) → ReadyGives (Some h) named given → FilesGive given a t n → FilesGive given b u m
       → Same words h a b t u n m
@@ -59,7 +59,7 @@ module _ (values : ValuesAreOne) (reports : ReportsAreOne) (script_fits : Script
       record {
         answer = one_answer ready a b t u x.0 y.0;
         fits = one_fits script_fits sample_fits ready v n m x.1 y.1;
-        text = λ none. one_text values reports script_texts sample_texts ready v a b t u (none ready (record { job = named; read = asked; given = r })) x.0 y.0;
+        text = λ none. one_text reports script_texts sample_texts ready v a b t u (none ready (record { job = named; read = asked; given = r })) x.0 y.0;
       }
 
   same_words : (read : Result Job WordFault) → WordsRead words read → (a b : Answer) (t u : List ℕ) (n m : ℕ) → WordsGive (Some h) read a t n → WordsGive (Some h) read b u m → Same words h a b t u n m

@@ -1,18 +1,9 @@
 -- What `report` gives: the report of a study's fit.
-use Rattle.std.specs.Prelude.{◌≡◌, ℕ, List, All}
-use Rattle.ofit_num.specs.Fraction.{Fraction, IsLowest}
-use Rattle.ofit_num.specs.Fit.{LeastBestValues}
-use Rattle.ofit_study.specs.Study.{Study, problem_stated, meaning_of}
-use Rattle.ofit_report.specs.ReportText.{ReportText}
+use Rattle.std.specs.Prelude.{◌≡◌, ℕ, List}
+use Rattle.ofit_study.specs.Study.{Study}
+use Rattle.ofit_report.specs.ReportOf.{IsReportOf}
 use Rattle.ofit_answer.specs.declared.answer.Answer.{Answer}
 use Rattle.ofit_answer.specs.declared.answer.Answer.TheVariants.{Done}
-
--- The text is the report of the study with its least best values, in lowest terms.
-pub record IsReportOf (s : Study) (text : List ℕ) : Type 0 where
-  pub values : List Fraction
-  pub least_best : LeastBestValues (meaning_of s.settings.loss) (problem_stated s) values
-  pub lowest : All IsLowest values
-  pub printed : ReportText s values text
 
 abbrev pub ReportGives : Study → Answer → List ℕ → Type 0
 ReportGives s answer text = (answer ≡ Done) × IsReportOf s text

@@ -1,4 +1,4 @@
-ghost use Rattle.std.specs.Prelude.{◌≡◌, ◌≤◌, ◌^◌, IfOk, OnOk, OnErr};
+ghost use Rattle.std.specs.Prelude.{◌≤◌, ◌^◌, IfOk, OnOk, OnErr};
 ghost use Rattle.ofit_input.specs.declared.ready.Ready.TheVariants as ready;
 ghost use Rattle.ofit_top.specs.Fit.{FitGives};
 ghost use Rattle.ofit_top.specs.Counting.{CountsWithin};

@@ -1,4 +1,4 @@
-ghost use Rattle.std.specs.Prelude.{◌≡◌, ◌≤◌, ◌^◌, IfOk, OnOk, OnErr};
+ghost use Rattle.std.specs.Prelude.{◌≤◌, ◌^◌, IfOk, OnOk, OnErr};
 ghost use Rattle.ofit_input.specs.Fitting.{IsFitting};
 ghost use Rattle.ofit_top.specs.Job.{JobGives};
 ghost use Rattle.ofit_top.specs.Counting.{CountsWithin};

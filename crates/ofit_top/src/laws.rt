@@ -17,7 +17,6 @@ ghost use Rattle.ofit_top.specs.State.{State};
 ghost use Rattle.ofit_top.specs.Run.{RunGives, AskFor, Writes, CountsRead, CountsWrite};
 
 use ofit_input::inputs_are_given_in_one_way;
-use ofit_num::least_best_values_are_unique;
 use ofit_report::reports_are_told_in_one_way;
 use ofit_sample::samples_are_told_in_one_way;
 use ofit_script::scripts_run_in_one_way;
@@ -66,7 +65,6 @@ pub fn runs_end_in_one_way()
 {
     words_have_one_reading();
     inputs_are_given_in_one_way();
-    least_best_values_are_unique();
     reports_are_told_in_one_way();
     scripts_run_in_one_way();
     samples_are_told_in_one_way();

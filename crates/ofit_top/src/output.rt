@@ -1,4 +1,4 @@
-ghost use Rattle.std.specs.Prelude.{◌≡◌, ◌<◌, ◌≤◌, ℕ, length, take, OnOk, OnErr};
+ghost use Rattle.std.specs.Prelude.{◌≡◌, ◌<◌, length, OnOk, OnErr};
 ghost use Rattle.ofit_outside.specs.Faults.{Rose};
 ghost use Rattle.ofit_outside.specs.Sink.{with_more, GainsPrefix};
 
@@ -18,10 +18,8 @@ pub(crate) fn put_text<O: Sink>(out: &mut O, text: &[u8]) -> Result<(), PutFault
     let mut rest = text;
     while !rest.is_empty() {
         let (piece, after) = rest.split_at(rest.len().min(PIECE));
-        match out.put(piece) {
-            Ok(()) => rest = after,
-            Err(fault) => return Err(fault),
-        }
+        out.put(piece)?;
+        rest = after;
     }
     Ok(())
 }

@@ -1,5 +1,4 @@
-ghost use Rattle.std.specs.Prelude.{◌≡◌, ◌≤◌, ◌^◌, IfOk, OnOk, OnErr, All};
-ghost use Rattle.ofit_num.specs.Fraction.{IsLowest};
+ghost use Rattle.std.specs.Prelude.{◌≤◌, ◌^◌, IfOk, OnOk, OnErr};
 ghost use Rattle.ofit_input.specs.declared.ready.Ready.TheVariants as ready;
 ghost use Rattle.ofit_top.specs.Report.{ReportGives};
 ghost use Rattle.ofit_top.specs.Counting.{CountsWithin};
@@ -8,19 +7,10 @@ ghost use Rattle.ofit_top.specs.Steps.{CountsJob};
 use crate::printed::Printed;
 use ofit_answer::Answer;
 use ofit_fit::fit_study;
-use ofit_num::{Frac, Tally};
+use ofit_num::{Tally, are_lowest};
 use ofit_report::write_report;
 use ofit_study::Study;
 use std::alloc::{AllocError, Global};
-
-/// Tells that each value is in lowest terms, as every `Frac` is.
-fn are_lowest(values: &[Frac])
-    ensures { All IsLowest values.now }
-{
-    for value in values {
-        let _below = value.den();
-    }
-}
 
 /// The report of a study's fit.
 pub(crate) fn print_report(

@@ -1,6 +1,6 @@
-ghost use Rattle.std.specs.Prelude.{◌≡◌, ◌≤◌, ◌^◌, IfOk, OnOk, OnErr};
+ghost use Rattle.std.specs.Prelude.{◌≤◌, ◌^◌, IfOk, OnOk, OnErr};
 ghost use Rattle.ofit_words.specs.declared.job.Job.TheVariants as job;
-ghost use Rattle.ofit_words.specs.Words.{IsJobInLimits};
+ghost use Rattle.ofit_words.specs.JobLimits.{IsJobInLimits};
 ghost use Rattle.ofit_input.specs.declared.ready.Ready.TheVariants as ready;
 ghost use Rattle.ofit_top.specs.Sample.{SampleGives};
 ghost use Rattle.ofit_top.specs.Counting.{CountsWithin};

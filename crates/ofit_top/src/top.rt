@@ -77,9 +77,9 @@ fn do_words<F: Folder, O: Sink>(
     Ok(printed.answer)
 }
 
-/// Does what the words ask for: reads the named files from the folder, fits, reports or verifies, and
-/// writes the output to `out`. A run that is refused, or that folder, output or memory ends, tells why in one line
-/// on `err`; a failing `err` changes no answer.
+/// Does what the words ask for, one of the eight commands: reads the named files from the folder, does the command's
+/// work on them, and writes the output to `out`. A run that is refused, or that folder, output or memory ends, tells why
+/// in one line on `err`; a failing `err` changes no answer.
 ///
 /// The whole output is made before any of it is written; it is put in pieces of 4,096 bytes. The tally
 /// counts each component of an order that is fitted.
@@ -93,13 +93,15 @@ pub fn run<F: Folder, O: Sink, E: Sink>(
 ) -> Answer
     requires room { tally.old.fits ≤ 2 ^ 63 }
     requires room_for_cuts { tally.old.cuts ≤ 2 ^ 63 }
-    // The output is what the words ask for: the sheet of the least best fit, its report, or the verdict on a sheet.
-    // It is written whole; a part of it, where the output fails; or nothing, where the run ends before.
+    // The output is what the words ask for: a sheet of a best fit, its report, the verdict on a sheet, what a script
+    // prints, a level table, or the summary of a made study. It is written whole; a part of it, where the output fails;
+    // or nothing, where the run ends before.
     ensures written { Writes (texts words.now)
         (state (F.held folder.old) (F.faults folder.old) (O.written out.old) (O.faults out.old) tally.old)
         (state (F.held folder.new) (F.faults folder.new) (O.written out.new) (O.faults out.new) tally.new)
         result }
-    // Each component of the study that was fitted is counted once, and nothing else is.
+    // Each fit of a component is counted: of all components of the study, and in a session of those that an edit
+    // touches. Nothing else is.
     ensures counted { CountsFits (texts words.now)
         (state (F.held folder.old) (F.faults folder.old) (O.written out.old) (O.faults out.old) tally.old)
         (state (F.held folder.new) (F.faults folder.new) (O.written out.new) (O.faults out.new) tally.new)
@@ -114,7 +116,7 @@ pub fn run<F: Folder, O: Sink, E: Sink>(
         (state (F.held folder.old) (F.faults folder.old) (O.written out.old) (O.faults out.old) tally.old)
         (state (F.held folder.new) (F.faults folder.new) (O.written out.new) (O.faults out.new) tally.new)
         result }
-    // A run without an output says why on `err`, in one line.
+    // A run that is refused, or that folder, output or memory ends, says so on `err`, in one line.
     ensures tells { Tells (sink (E.written err.old) (E.faults err.old)) (sink (E.written err.new) (E.faults err.new)) result }
     // The files stay as they are.
     ensures held { F.held folder.new ≡ F.held folder.old }

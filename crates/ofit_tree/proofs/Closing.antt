@@ -4,7 +4,7 @@ use Rattle.std.proofs.lemmas.Bool.{cases_eq}
 use Rattle.std.proofs.lemmas.List.{length-set}
 use Rattle.std.proofs.lemmas.List.Elements.{All-head, All-tail, All-contains}
 use Rattle.std.proofs.lemmas.Option.{slice_get_within}
-use Rattle.std.specs.Prelude.{slice_get, slice_index, Option, Some}
+use Rattle.std.specs.Prelude.{slice_get, slice_index, Option, Some, All, Contains}
 use Rattle.ofit_num.specs.declared.row.Row.{Row}
 use Rattle.ofit_num.specs.Groups.{RowLists}
 use Rattle.ofit_num.specs.Meaning.{Meaning}
@@ -57,32 +57,41 @@ module _ {P : Type 0} where
   pub by_slot : {A : Type 0} (slots : List (Slot P)) (k : ℕ) → k < length slots → ((b : Block P) → slice_get slots k ≡ Some (Open b) → A) → ((v : Fraction) → slice_get slots k ≡ Some (Settled v) → A) → (slice_get slots k ≡ Some Joined → A) → A
   by_slot slots k l f g h = let s : (x : Slot P) × (slice_get slots k ≡ Some x) = slot_at slots k l in which (slice_get slots k) s.0 s.1 f g h
 
+-- a forest with other entries, among which is one for each block that waits
+pub with_queue : {P : Type 0} (d : Direction) (IsPoolOf : P → List Row → Type 0) (m : Meaning) (strict : Bool) (groups : RowLists) (parents : List (Option ℕ)) (labels : List ℕ) (slots : List (Slot P)) (queue queue' : List Entry)
+    → IsForest d IsPoolOf m strict groups parents labels slots queue
+    → ((k : ℕ) (b : Block P) → slice_get slots k ≡ Some (Open b) → Contains queue' (record { rank = rank_of d b.value; block = k }))
+    → All (λ e. (e.block < length groups) × (0 < e.rank.den)) queue' → IsForest d IsPoolOf m strict groups parents labels slots queue'
+with_queue d IsPoolOf m strict groups parents labels slots queue queue' h entered entries = record {
+  limit = h.limit;
+  limit_den = h.limit_den;
+  labels_count = h.labels_count;
+  slots_count = h.slots_count;
+  numbers = h.numbers;
+  live = h.live;
+  waiting = h.waiting;
+  entered = entered;
+  entries = entries;
+  level = h.level;
+  above = h.above;
+  rises = h.rises;
+}
+
 module _ {P : Type 0} (d : Direction) (IsPoolOf : P → List Row → Type 0) (m : Meaning) (strict : Bool) (groups : RowLists) (parents : List (Option ℕ)) (tree : IsRootedTree parents) (count : length parents ≡ length groups)
     (law : HasFallingSpans m (tree_problem d groups parents)) (labels : List ℕ) (slots : List (Slot P)) (entry : Entry) (queue : List Entry) (h : IsForest d IsPoolOf m strict groups parents labels slots (entry ∷ queue)) where
   -- an entry that is not current can go
   pub outdated_goes : IsOutdated d slots entry → IsForest d IsPoolOf m strict groups parents labels slots queue
-  outdated_goes out = record {
-    limit = h.limit;
-    limit_den = h.limit_den;
-    labels_count = h.labels_count;
-    slots_count = h.slots_count;
-    numbers = h.numbers;
-    live = h.live;
-    waiting = h.waiting;
-    entered = λ k b at. elim (cons_cases queue entry (record { rank = rank_of d b.value; block = k }) (h.entered k b at)) [
-      | inl e ↦ absurd (out b (ap (slice_get slots) (blocks e) ∙ at) (sym (ranks e)))
-      | inr c ↦ c
-    ];
-    entries = All-tail (λ e. (e.block < length groups) × (0 < e.rank.den)) entry queue h.entries;
-    level = h.level;
-    above = h.above;
-    rises = h.rises;
-  } where
-    blocks : {k : ℕ} {r : Fraction} → entry ≡ record { rank = r; block = k } → entry.block ≡ k
-    blocks e = ap (λ (x : Entry). x.block) e
+  outdated_goes out = with_queue d IsPoolOf m strict groups parents labels slots (entry ∷ queue) queue h
+      (λ k b at. elim (cons_cases queue entry (record { rank = rank_of d b.value; block = k }) (h.entered k b at)) [
+        | inl e ↦ absurd (out b (ap (slice_get slots) (blocks e) ∙ at) (sym (ranks e)))
+        | inr c ↦ c
+      ])
+      (All-tail (λ e. (e.block < length groups) × (0 < e.rank.den)) entry queue h.entries) where
+        blocks : {k : ℕ} {r : Fraction} → entry ≡ record { rank = r; block = k } → entry.block ≡ k
+        blocks e = ap (λ (x : Entry). x.block) e
 
-    ranks : {k : ℕ} {r : Fraction} → entry ≡ record { rank = r; block = k } → entry.rank ≡ r
-    ranks e = ap (λ (x : Entry). x.rank) e
+        ranks : {k : ℕ} {r : Fraction} → entry ≡ record { rank = r; block = k } → entry.rank ≡ r
+        ranks e = ap (λ (x : Entry). x.rank) e
 
   entry_den : 0 < entry.rank.den
   entry_den = (All-head (λ e. (e.block < length groups) × (0 < e.rank.den)) entry queue h.entries).1

@@ -5,11 +5,12 @@ use Rattle.std.proofs.lemmas.Bool.{both_ways}
 use Rattle.std.specs.Prelude.{ℤ, pos, ◌+ℤ◌, ◌*ℤ◌, ◌≤ℤ◌, ◌<ℤ◌, All}
 use Rattle.ofit_num.specs.Problem.{Problem}
 use Rattle.ofit_num.specs.Meaning.{Meaning}
-use Rattle.ofit_num.specs.Fraction.{Fraction, AtMost, Below}
+use Rattle.ofit_num.specs.Fraction.{Fraction, AtMost}
+use Rattle.ofit_num.specs.Below.{Below}
 use Rattle.ofit_num.specs.Law.{least_at, greatest_at, HasFallingSpans}
 use Rattle.ofit_num.specs.Sets.{set_sum, IsWithin, IsUpperIn, IsLowerIn}
 use Rattle.ofit_num.specs.Block.{IsPooled, IsCost}
-use Rattle.ofit_num.proofs.Blocks.{member_or_none, set_sum-none, set_sum-equal, below_trans, set_sum-both}
+use Rattle.ofit_num.proofs.Blocks.{member_or_none, set_sum-none, set_sum-equal, below_trans, set_sum-both, pooled_below, pooled_above}
 use Rattle.ofit_num.proofs.Cuts.{difference, set_sum-difference}
 use Rattle.ofit_num.proofs.Pieces.{meet, both_and}
 use Rattle.ofit_num.specs.Level.{IsLevel}
@@ -81,33 +82,14 @@ module _ (m : Meaning) (s : Problem) (law : HasFallingSpans m s) (strict : Bool)
     split_sum : (a : ℕ → Bool) (f : ℕ → ℤ) → IsWithin s piece a → set_sum a f s.count ≡ set_sum (meet a base) f s.count +ℤ set_sum (meet a child) f s.count
     split_sum a f inside = set_sum-parted a base child f s.count (λ g l u. sym (parts g l) ∙ inside.each g l u) apart
 
-    whole_sum : (f : ℕ → ℤ) → set_sum piece f s.count ≡ set_sum base f s.count +ℤ set_sum child f s.count
-    whole_sum f = set_sum-both piece base child f s.count parts apart
+    turned : (f : ℕ → ℤ) → set_sum piece f s.count ≡ set_sum child f s.count +ℤ set_sum base f s.count
+    turned f = omega (arith, ints, set_sum-both piece base child f s.count parts apart)
 
-    -- the pooled value lies between the two
     at_least_child : AtMost c t
-    at_least_child = by_lt_z (t.num *ℤ pos c.den) (c.num *ℤ pos t.den)
-        (λ h. absurd (omega (
-          arith,
-          ints,
-          pooled.least,
-          whole_sum (least_at m s t),
-          upper.pooled.smaller t pooled.den h,
-          lower.pooled.smaller t pooled.den (below_trans t c b pooled.den upper.pooled.den lower.pooled.den h order),
-        )))
-        (λ h. h)
+    at_least_child = pooled_above m s law piece child base c b t turned upper.pooled lower.pooled pooled order
 
     at_most_base : AtMost t b
-    at_most_base = by_lt_z (b.num *ℤ pos t.den) (t.num *ℤ pos b.den)
-        (λ h. absurd (omega (
-          arith,
-          ints,
-          pooled.smaller b lower.pooled.den h,
-          whole_sum (least_at m s b),
-          lower.pooled.least,
-          least_stays m s law child c b upper.pooled.den lower.pooled.den order upper.pooled.least,
-        )))
-        (λ h. h)
+    at_most_base = pooled_below m s law piece child base c b t turned upper.pooled lower.pooled pooled order
 
     -- an upper set without the top gains nothing by rising from the child's value
     risen : (a : ℕ → Bool) → IsWithin s piece a → IsUpperIn s piece a → a top ≡ false → set_sum a (least_at m s c) s.count ≤ℤ pos 0

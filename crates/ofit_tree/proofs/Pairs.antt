@@ -4,6 +4,7 @@ use Rattle.std.proofs.lemmas.Bool.{cases_eq, cases_lt}
 use Rattle.std.proofs.lemmas.Option.{slice_get_within, none-some}
 use Rattle.std.proofs.lemmas.List.Elements.{All-nil, All-cons, All-head, All-tail}
 use Rattle.std.specs.Prelude.{All, Option, Some, None}
+use Rattle.ofit_num.proofs.Parts.{base_in, child_in}
 use Rattle.ofit_tree.specs.declared.direction.Direction.{Direction}
 use Rattle.ofit_tree.specs.declared.direction.Direction.TheVariants.{RootGreatest, RootLeast}
 use Rattle.ofit_tree.specs.Tree.{pair_of, pairs_from, tree_pairs, IsParent, Climbs, IsRootedTree}
@@ -116,10 +117,7 @@ module _ (parents : List (Option ℕ)) (tree : IsRootedTree parents) where
     member false false e f h = cc
 
     from_base : (q : ℕ) → q < length parents → base q ≡ true → piece q ≡ true
-    from_base q lq h = parts q lq ∙ ap (λ (x : Bool). x || child q) h
+    from_base = base_in (length parents) piece base child parts
 
     from_child : (q : ℕ) → q < length parents → child q ≡ true → piece q ≡ true
-    from_child q lq h = parts q lq ∙ last (base q) (child q) h where
-      last : (x y : Bool) → y ≡ true → (x || y) ≡ true
-      last true y e = refl
-      last false y e = e
+    from_child = child_in (length parents) piece base child parts

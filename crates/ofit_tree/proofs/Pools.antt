@@ -5,17 +5,20 @@ use Rattle.std.proofs.lemmas.Bool.{cases_order}
 use Rattle.std.proofs.lemmas.List.{take_all}
 use Rattle.std.proofs.lemmas.List.Sums.{sum_by-append}
 use Rattle.std.proofs.lemmas.List.Elements.{All-append}
-use Rattle.std.specs.Prelude.{ℤ, pos, ◌+ℤ◌, ◌≤ℤ◌, All, slice_get, Some, unwrap_or, nat_lt}
+use Rattle.std.specs.Prelude.{ℤ, pos, ◌+ℤ◌, ◌≤ℤ◌, All, slice_get, Some, unwrap_or}
 use Rattle.ofit_num.specs.declared.row.Row.{Row}
 use Rattle.ofit_num.specs.Groups.{RowLists}
-use Rattle.ofit_num.specs.Problem.{problem_of, no_bounds}
+use Rattle.ofit_num.specs.Problem.{problem_of}
+use Rattle.ofit_num.specs.Unbounded.{no_bounds}
 use Rattle.ofit_num.specs.Meaning.{Meaning}
 use Rattle.ofit_num.specs.Fraction.{Fraction}
 use Rattle.ofit_num.specs.Law.{least_at, greatest_at}
-use Rattle.ofit_num.specs.Limits.{IsRowWithinLimits, total_weight, all_rows}
+use Rattle.ofit_num.specs.Limits.{total_weight, all_rows}
+use Rattle.ofit_num.specs.RowLimits.{IsRowWithinLimits}
 use Rattle.ofit_num.specs.Sets.{set_sum}
 use Rattle.ofit_num.specs.Block.{IsPooled, IsCost}
 use Rattle.ofit_num.proofs.Blocks.{set_sum-both}
+use Rattle.ofit_loss.proofs.Plain.{special_count-append}
 use Rattle.ofit_num.proofs.RowLists.{all_rows-take_more, group_at}
 use Rattle.ofit_loss.specs.Rows.{AreFittable, special_count}
 use Rattle.ofit_loss.specs.Laws.{HasLossLaws}
@@ -60,9 +63,6 @@ piece_bound F adds groups piece (suc n) l =
 weights_add : (xs ys : List Row) → total_weight (xs ++ ys) ≡ total_weight xs + total_weight ys
 weights_add xs ys = sum_by-append (λ (r : Row). r.weight) xs ys
 
-specials_add : (xs ys : List Row) → special_count (xs ++ ys) ≡ special_count xs + special_count ys
-specials_add xs ys = sum_by-append (λ (r : Row). cond (nat_lt 4294967293 r.number) 1 0) xs ys
-
 -- rows of the groups of a piece can be taken together
 piece_fittable : (groups : RowLists) (pairs : List (ℕ × ℕ)) (piece : ℕ → Bool) (rows : List Row) → AreFittable (all_rows groups) → All IsRowWithinLimits rows
     → pos (total_weight rows) ≡ set_sum piece (λ g. pos (total_weight ((problem_of groups pairs no_bounds).rows g))) (length groups)
@@ -72,7 +72,7 @@ piece_fittable groups pairs piece rows fit each weight special = record {
     each = each;
     together = omega (arith, ints, weight, piece_bound total_weight weights_add groups piece (length groups) (omega arith), ap (λ (gs : RowLists). total_weight (all_rows gs)) (take_all (length groups) groups (omega arith)), fit.limits.together);
   };
-  special = omega (arith, ints, special, piece_bound special_count specials_add groups piece (length groups) (omega arith), ap (λ (gs : RowLists). special_count (all_rows gs)) (take_all (length groups) groups (omega arith)), fit.special);
+  special = omega (arith, ints, special, piece_bound special_count special_count-append groups piece (length groups) (omega arith), ap (λ (gs : RowLists). special_count (all_rows gs)) (take_all (length groups) groups (omega arith)), fit.special);
 }
 
 module _ {P : Type 0} (IsPoolOf : P → List Row → Type 0) (m : Meaning) (strict : Bool) (laws : HasLossLaws m strict) (groups : RowLists) (pairs : List (ℕ × ℕ)) (fit : AreFittable (all_rows groups)) where
@@ -115,7 +115,7 @@ module _ {P : Type 0} (IsPoolOf : P → List Row → Type 0) (m : Meaning) (stri
     both_weight = omega (arith, ints, weights_add hu.rows hl.rows, hu.weight, hl.weight, set_sum-both piece base child (λ g. pos (total_weight ((problem_of groups pairs no_bounds).rows g))) (length groups) parts apart)
 
     both_special : pos (special_count (hu.rows ++ hl.rows)) ≡ set_sum piece (λ g. pos (special_count ((problem_of groups pairs no_bounds).rows g))) (length groups)
-    both_special = omega (arith, ints, specials_add hu.rows hl.rows, hu.special, hl.special, set_sum-both piece base child (λ g. pos (special_count ((problem_of groups pairs no_bounds).rows g))) (length groups) parts apart)
+    both_special = omega (arith, ints, special_count-append hu.rows hl.rows, hu.special, hl.special, set_sum-both piece base child (λ g. pos (special_count ((problem_of groups pairs no_bounds).rows g))) (length groups) parts apart)
 
     pub both_fittable : AreFittable (hu.rows ++ hl.rows)
     both_fittable = piece_fittable groups pairs piece (hu.rows ++ hl.rows) fit both_each both_weight both_special

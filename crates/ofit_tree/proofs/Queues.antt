@@ -21,7 +21,7 @@ use Rattle.ofit_tree.specs.declared.slot.Slot.{Slot}
 use Rattle.ofit_tree.specs.declared.slot.Slot.TheVariants.{Settled}
 use Rattle.ofit_tree.specs.Entry.{entry_cmp, rank_of}
 use Rattle.ofit_tree.specs.Forest.{IsForest, IsFirst, AreAllSettled, AreSettledValues}
-use Rattle.ofit_tree.proofs.Closing.{by_slot}
+use Rattle.ofit_tree.proofs.Closing.{by_slot, with_queue}
 use Rattle.ofit_num.proofs.Elements.{slice_get-push, slice_get-before}
 
 -- where no number is less
@@ -43,20 +43,9 @@ first_of_heap n x ys entries bound = each_at_most x ys (All-head (λ e. (e.block
 module _ {P : Type 0} (d : Direction) (IsPoolOf : P → List Row → Type 0) (m : Meaning) (strict : Bool) (groups : RowLists) (parents : List (Option ℕ)) (labels : List ℕ) (slots : List (Slot P)) where
   -- the order of the entries is free
   pub forest_permuted : (queue queue' : List Entry) → IsPermutation queue queue' → IsForest d IsPoolOf m strict groups parents labels slots queue → IsForest d IsPoolOf m strict groups parents labels slots queue'
-  forest_permuted queue queue' moved h = record {
-    limit = h.limit;
-    limit_den = h.limit_den;
-    labels_count = h.labels_count;
-    slots_count = h.slots_count;
-    numbers = h.numbers;
-    live = h.live;
-    waiting = h.waiting;
-    entered = λ k b e. Contains-permutation queue queue' (record { rank = rank_of d b.value; block = k }) moved (h.entered k b e);
-    entries = All-permutation (λ e. (e.block < length groups) × (0 < e.rank.den)) queue queue' moved h.entries;
-    level = h.level;
-    above = h.above;
-    rises = h.rises;
-  }
+  forest_permuted queue queue' moved h = with_queue d IsPoolOf m strict groups parents labels slots queue queue' h
+      (λ k b e. Contains-permutation queue queue' (record { rank = rank_of d b.value; block = k }) moved (h.entered k b e))
+      (All-permutation (λ e. (e.block < length groups) × (0 < e.rank.den)) queue queue' moved h.entries)
 
   -- without entries nothing waits
   pub all_settled : IsForest d IsPoolOf m strict groups parents labels slots [] → AreAllSettled labels slots

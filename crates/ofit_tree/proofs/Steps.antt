@@ -22,7 +22,7 @@ use Rattle.ofit_tree.specs.declared.slot.Slot.{Slot}
 use Rattle.ofit_tree.specs.declared.slot.Slot.TheVariants.{Open, Settled, Joined}
 use Rattle.ofit_tree.specs.Entry.{rank_of}
 use Rattle.ofit_num.specs.Law.{HasFallingSpans}
-use Rattle.ofit_num.specs.Problem.{no_bounds}
+use Rattle.ofit_num.specs.Unbounded.{no_bounds}
 use Rattle.ofit_loss.proofs.ProblemLaws.{groups_fittable, problem_falling}
 use Rattle.ofit_tree.specs.Tree.{IsParent, tree_pairs, tree_problem}
 use Rattle.ofit_loss.specs.Pool.{CanMerge}

@@ -1,25 +1,27 @@
 -- blocks of trees, whose root is greatest or least: lone groups, absorbed child blocks, and what a fit needs of them
-use Rattle.std.proofs.Common.{◌≡◌, ℕ, ◌<◌, refl, sym, ap, subst, ◌∙◌, arith, Bool, true, false, ◌||◌, ◌&&◌, List, length, ◌⊎◌, inl, inr}
+use Rattle.std.proofs.Common.{◌≡◌, ℕ, ◌<◌, refl, sym, ap, subst, ◌∙◌, arith, Bool, true, false, ◌||◌, ◌&&◌, List, length, inl, inr}
 use Rattle.std.proofs.lemmas.Int.{ints}
-use Rattle.std.proofs.lemmas.Bool.{both_ways, cases_eq}
-use Rattle.std.specs.Prelude.{ℤ, pos, ◌+ℤ◌, ◌<ℤ◌, All, Option}
+use Rattle.std.proofs.lemmas.Bool.{cases_eq}
+use Rattle.std.specs.Prelude.{ℤ, pos, ◌<ℤ◌, All, Option}
 use Rattle.ofit_num.specs.Groups.{RowLists}
 use Rattle.ofit_num.specs.Problem.{Problem}
 use Rattle.ofit_num.specs.Meaning.{Meaning}
-use Rattle.ofit_num.specs.Fraction.{Fraction, AtMost, Below}
+use Rattle.ofit_num.specs.Fraction.{Fraction, AtMost}
+use Rattle.ofit_num.specs.Below.{Below}
 use Rattle.ofit_num.specs.Law.{least_at, greatest_at, HasFallingSpans}
 use Rattle.ofit_num.specs.Sets.{set_sum, IsWithin, IsUpperIn, IsLowerIn}
 use Rattle.ofit_num.specs.Steep.{IsSteep}
 use Rattle.ofit_num.specs.Block.{IsPooled, IsBlock, IsCost}
-use Rattle.ofit_num.proofs.Blocks.{absorbed, block_costs, member_or_none, set_sum-none, set_sum-equal, below_trans, lower_with_top}
-use Rattle.ofit_num.proofs.Pieces.{meet, and_both, both_and}
+use Rattle.ofit_num.proofs.Blocks.{absorbed, block_costs, parts_cost, set_sum-equal, below_trans, lower_with_top}
+use Rattle.ofit_num.proofs.Parts.{in_part, base_in, child_in, lower_part}
+use Rattle.ofit_num.proofs.Pieces.{meet}
 use Rattle.ofit_tree.specs.declared.direction.Direction.{Direction}
 use Rattle.ofit_tree.specs.declared.direction.Direction.TheVariants.{RootGreatest, RootLeast}
 use Rattle.ofit_tree.specs.Entry.{IsInOrder}
 use Rattle.ofit_tree.specs.Tree.{tree_problem, IsParent, IsRootedTree}
 use Rattle.ofit_num.specs.Level.{IsLevel}
 use Rattle.ofit_tree.specs.Level.{IsTreeBlock}
-use Rattle.ofit_num.proofs.Falls.{set_sum-parted, cost_falls, least_at_most_greatest}
+use Rattle.ofit_num.proofs.Falls.{cost_falls, least_at_most_greatest}
 use Rattle.ofit_tree.proofs.Pairs.{pair_at, each_pair, one_parent, places, parent_below, child_below, depth, deeper, Hangs, top_highest, climbs_to_top, hangs_together}
 use Rattle.ofit_num.proofs.Division.{at_most_trans}
 use Rattle.ofit_tree.proofs.LowBlocks.{low_level, low_limit, low_lone, low_absorbed}
@@ -136,53 +138,15 @@ module _ (m : Meaning) (strict : Bool) (groups : RowLists) (parents : List (Opti
   up_to_top : (d : Direction) (a : ℕ → Bool) → ((g q : ℕ) → IsParent parents g q → piece g ≡ true → piece q ≡ true → a g ≡ true → a q ≡ true) → IsWithin (tree_problem d groups parents) piece a → (g : ℕ) → g < length groups → a g ≡ true → a top ≡ true
   up_to_top d a closed inside g l u = climbs_to_top parents tree piece a top hangs closed (depth parents tree g) g (omega arith) (there g l) (inside.each g l u) u
 
-  -- the lower sets of the whole, in its parts
-  in_part : (part a : ℕ → Bool) → IsWithin (tree_problem RootGreatest groups parents) part (meet a part)
-  in_part part a = record { each = λ g l k. (and_both (a g) (part g) k).1 }
-
-  lower_part : (part a : ℕ → Bool) → ((g : ℕ) → g < length groups → part g ≡ true → piece g ≡ true) → IsLowerIn (tree_problem RootGreatest groups parents) piece a → IsLowerIn (tree_problem RootGreatest groups parents) part (meet a part)
-  lower_part part a inside h i d l low high k = both_and _ _ (h i d l (inside _ (all_places RootGreatest i d l).0 low) (inside _ (all_places RootGreatest i d l).1 high) (and_both _ _ k).0) low
-
-  base_in : (g : ℕ) → g < length groups → base g ≡ true → piece g ≡ true
-  base_in g l u = parts g l ∙ ap (λ (y : Bool). y || child g) u
-
-  child_in : (g : ℕ) → g < length groups → child g ≡ true → piece g ≡ true
-  child_in g l u = parts g l ∙ last (base g) (child g) u where
-    last : (y z : Bool) → z ≡ true → (y || z) ≡ true
-    last true z e = refl
-    last false z e = e
-
   absorbed_steep : HasFallingSpans m (tree_problem RootGreatest groups parents) → IsTreeBlock RootGreatest m (tree_problem RootGreatest groups parents) strict base top b be → IsTreeBlock RootGreatest m (tree_problem RootGreatest groups parents) strict child leaf c ce
       → AtMost c be → IsSteep m (tree_problem RootGreatest groups parents) piece top c
-  absorbed_steep law lower upper limit = record { gains = λ v lv below a inside low out g l u. total v lv below a inside low out g l u } where
-    s : Problem
-    s = tree_problem RootGreatest groups parents
-
-    total : (v : Fraction) → 0 < v.den → Below v c → (a : ℕ → Bool) → IsWithin (tree_problem RootGreatest groups parents) piece a → IsLowerIn (tree_problem RootGreatest groups parents) piece a → a top ≡ false → (g : ℕ) → g < length groups → a g ≡ true
-        → pos 0 <ℤ set_sum a (least_at m (tree_problem RootGreatest groups parents) v) (length groups)
-    total v lv below a inside low out g l u = go (member_or_none (meet a base) (length groups)) (member_or_none (meet a child) (length groups)) where
-      f : ℕ → ℤ
-      f = least_at m (tree_problem RootGreatest groups parents) v
-
-      halves : set_sum a (least_at m (tree_problem RootGreatest groups parents) v) (length groups) ≡ set_sum (meet a base) (least_at m (tree_problem RootGreatest groups parents) v) (length groups) +ℤ set_sum (meet a child) (least_at m (tree_problem RootGreatest groups parents) v) (length groups)
-      halves = set_sum-parted a base child (least_at m (tree_problem RootGreatest groups parents) v) (length groups) (λ h lh k. sym (parts h lh) ∙ inside.each h lh k) apart
-
-      from_base : (h : ℕ) → h < length groups → meet a base h ≡ true → pos 0 <ℤ set_sum (meet a base) (least_at m (tree_problem RootGreatest groups parents) v) (length groups)
-      from_base h lh k = lower.1.gains v lv (below_trans v c be lv upper.0.pooled.den lower.0.limit_den below limit) (meet a base) (in_part base a) (lower_part base a base_in low) (ap (λ (x : Bool). x && base top) out) h lh k
-
-      from_child : (h : ℕ) → h < length groups → meet a child h ≡ true → pos 0 <ℤ set_sum (meet a child) (least_at m (tree_problem RootGreatest groups parents) v) (length groups)
-      from_child h lh k = great_gains m (tree_problem RootGreatest groups parents) law strict child leaf c ce upper.0 upper.1 v lv below (meet a child) (in_part child a) (lower_part child a child_in low) h lh k
-
-      go : ((h : ℕ) × (h < length groups) × (meet a base h ≡ true)) ⊎ ((h : ℕ) → h < length groups → meet a base h ≡ false)
-          → ((h : ℕ) × (h < length groups) × (meet a child h ≡ true)) ⊎ ((h : ℕ) → h < length groups → meet a child h ≡ false) → pos 0 <ℤ set_sum a (least_at m (tree_problem RootGreatest groups parents) v) (length groups)
-      go (inl x) (inl y) = omega (arith, ints, halves, from_base x.0 x.1 x.2, from_child y.0 y.1 y.2)
-      go (inl x) (inr none) = omega (arith, ints, halves, from_base x.0 x.1 x.2, set_sum-none (meet a child) (least_at m (tree_problem RootGreatest groups parents) v) (length groups) none)
-      go (inr none) (inl y) = omega (arith, ints, halves, from_child y.0 y.1 y.2, set_sum-none (meet a base) (least_at m (tree_problem RootGreatest groups parents) v) (length groups) none)
-      go (inr none) (inr none') = absurd (nowhere (base g) (child g) refl refl) where
-        nowhere : (x y : Bool) → base g ≡ x → child g ≡ y → ⊥
-        nowhere true y e k = both_ways (meet a base g) (none g l) (both_and (a g) (base g) u e)
-        nowhere false true e k = both_ways (meet a child g) (none' g l) (both_and (a g) (child g) u k)
-        nowhere false false e k = both_ways (piece g) (parts g l ∙ ap (λ (z : Bool). z || child g) e ∙ k) (inside.each g l u)
+  absorbed_steep law lower upper limit = record {
+    gains = λ v lv below a inside low out. parts_cost false (length groups) piece base child a (least_at m (tree_problem RootGreatest groups parents) v) parts apart inside.each
+        (λ h lh k. lower.1.gains v lv (below_trans v c be lv upper.0.pooled.den lower.0.limit_den below limit) (meet a base) (in_part (tree_problem RootGreatest groups parents) base a)
+        (lower_part (tree_problem RootGreatest groups parents) (all_places RootGreatest) piece base a (base_in (length groups) piece base child parts) low) (ap (λ (x : Bool). x && base top) out) h lh k)
+        (λ h lh k. great_gains m (tree_problem RootGreatest groups parents) law strict child leaf c ce upper.0 upper.1 v lv below (meet a child) (in_part (tree_problem RootGreatest groups parents) child a)
+        (lower_part (tree_problem RootGreatest groups parents) (all_places RootGreatest) piece child a (child_in (length groups) piece base child parts) low) h lh k);
+  }
 
   pub tree_absorbed : (d : Direction) → HasFallingSpans m (tree_problem d groups parents) → IsTreeBlock d m (tree_problem d groups parents) strict base top b be → IsTreeBlock d m (tree_problem d groups parents) strict child leaf c ce
       → IsInOrder d b c → IsInOrder d c be → IsPooled m (tree_problem d groups parents) piece t → IsCost strict (set_sum piece (greatest_at m (tree_problem d groups parents) t) (length groups)) → IsTreeBlock d m (tree_problem d groups parents) strict piece top t c

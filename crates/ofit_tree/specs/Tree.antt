@@ -1,7 +1,8 @@
 -- Rooted trees of groups, each given by its parents: the place of each group's parent, and none for the root.
 use Rattle.std.specs.Prelude.{◌≡◌, ℕ, zero, suc, ◌<◌, List, [], ◌∷◌, length, slice_get, Option, Some, None}
 use Rattle.ofit_num.specs.Groups.{RowLists}
-use Rattle.ofit_num.specs.Problem.{Problem, problem_of, no_bounds}
+use Rattle.ofit_num.specs.Problem.{Problem, problem_of}
+use Rattle.ofit_num.specs.Unbounded.{no_bounds}
 use Rattle.ofit_tree.specs.declared.direction.Direction.{Direction}
 use Rattle.ofit_tree.specs.declared.direction.Direction.TheVariants.{RootGreatest, RootLeast}
 

@@ -1,6 +1,6 @@
-ghost use Rattle.std.specs.Prelude.{◌≡◌, Some, refl, ◌≤◌, ◌<◌};
+ghost use Rattle.std.specs.Prelude.{◌≡◌, Some, refl, ◌<◌};
 ghost use Rattle.std.specs.Cmp;
-ghost use Rattle.std.specs.Cmp.{on_total, on_equiv};
+ghost use Rattle.std.specs.Cmp.{on_total};
 ghost use Rattle.std.specs.Ordering.{is_eq};
 ghost use Rattle.ofit_num.proofs.FractionOrder.{fraction_total};
 ghost use Rattle.ofit_tree.specs.Entry.{entry_cmp, rank_of};

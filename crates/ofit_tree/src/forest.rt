@@ -1,4 +1,4 @@
-ghost use Rattle.std.specs.Prelude.{◌≡◌, ◌+◌, ◌≤◌, ◌∷◌, OnOk, count_by};
+ghost use Rattle.std.specs.Prelude.{◌+◌, ◌≤◌, ◌∷◌, OnOk, count_by};
 ghost use Rattle.std.specs.BinaryHeap.{heap_items, heap_len, IsHeap};
 ghost use Rattle.ofit_tree.specs.Entry.{entry_cmp};
 ghost use Rattle.ofit_tree.specs.Forest.{IsFirst, IsForest, IsFittableTree, CanAbsorb, is_open};

@@ -7,7 +7,8 @@ use Rattle.ofit_num.specs.Loss.{median}
 use Rattle.ofit_num.specs.Problem.{Problem}
 use Rattle.ofit_num.specs.Trial.{Trial}
 use Rattle.ofit_num.proofs.TableScaling.{first_power}
-use Rattle.ofit_sheet.specs.Unimodal.{IsUnimodal, IsBestPeak, HasNoBounds, umbrella, whole_trial}
+use Rattle.ofit_sheet.specs.Unimodal.{IsUnimodal, IsBestPeak, umbrella, whole_trial}
+use Rattle.ofit_sheet.specs.Unbounded.{HasNoBounds}
 use Rattle.ofit_sheet.proofs.Umbrella.{umbrella_told}
 use Rattle.ofit_sides.specs.Sides.{AreRises, AreFalls}
 use Rattle.ofit_unimodal.specs.Costs.{rise_cost, fall_cost, split_cost, IsCheapest}

@@ -8,16 +8,18 @@ use Rattle.std.proofs.lemmas.List.Elements.{All-head, All-tail}
 use Rattle.std.specs.Prelude.{ℤ, pos, ◌-ℤ◌, All, MatchOption, slice_index_or, unsigned_abs}
 use Rattle.ofit_num.specs.declared.row.Row.{Row}
 use Rattle.ofit_num.specs.Fit.{sum_below, trial_cost}
-use Rattle.ofit_num.specs.Limits.{IsRowWithinLimits, AreWithinLimits, total_weight}
+use Rattle.ofit_num.specs.Limits.{total_weight}
+use Rattle.ofit_num.specs.RowLimits.{IsRowWithinLimits, AreWithinLimits}
 use Rattle.ofit_num.specs.Loss.{median, row_sum}
 use Rattle.ofit_num.specs.Problem.{Problem}
 use Rattle.ofit_num.proofs.Sums.{sum_below-mono}
 use Rattle.ofit_sheet.specs.declared.peaked.limits.TheConstants.{MOST_COST}
 use Rattle.ofit_sheet.specs.Peaked.{Peaked, IsShaped, IsInLimits, IsStepInLimits}
 use Rattle.ofit_sheet.specs.PeakVerdict.{PeakPasses, KeepsShape}
-use Rattle.ofit_sheet.specs.Unimodal.{IsUnimodal, PeakBest, HasNoBounds, whole_trial}
+use Rattle.ofit_sheet.specs.Unimodal.{IsUnimodal, PeakBest, whole_trial}
+use Rattle.ofit_sheet.specs.Unbounded.{HasNoBounds}
 use Rattle.ofit_sheet.proofs.Umbrella.{umbrella_told}
-use Rattle.ofit_check.specs.Peak.{distance}
+use Rattle.ofit_check.specs.PeakSteps.{distance}
 use Rattle.ofit_check.proofs.PeakCosts.{distances_cost}
 use Rattle.ofit_sides.specs.Sides.{AreRises, AreFalls}
 use Rattle.ofit_unimodal.specs.Fitted.{IsFit}

@@ -8,14 +8,18 @@ use Rattle.ofit_num.specs.Fraction.{Fraction}
 use Rattle.ofit_num.specs.Groups.{RowLists}
 use Rattle.ofit_num.specs.Limits.{all_rows}
 use Rattle.ofit_num.specs.Loss.{median}
-use Rattle.ofit_num.specs.Problem.{Problem, HasPlaces, problem_of, no_bounds}
+use Rattle.ofit_num.specs.Problem.{Problem, problem_of}
+use Rattle.ofit_num.specs.ProblemPairs.{HasPlaces}
+use Rattle.ofit_num.specs.Unbounded.{no_bounds}
 use Rattle.ofit_num.specs.Settled.{IsLeastSettled}
-use Rattle.ofit_num.specs.Trial.{Represents, trial_of}
+use Rattle.ofit_num.specs.Trial.{trial_of}
+use Rattle.ofit_num.specs.TrialValues.{Represents}
 use Rattle.ofit_num.proofs.TableScaling.{absolute-scaling}
 use Rattle.ofit_num.proofs.Trials.{least_best_trial}
 use Rattle.ofit_loss.specs.Rows.{AreFittable}
 use Rattle.ofit_loss.proofs.ProblemLaws.{groups_fittable}
-use Rattle.ofit_sheet.specs.Unimodal.{HasNoBounds, umbrella, umbrella_pairs, whole_trial}
+use Rattle.ofit_sheet.specs.Unimodal.{umbrella, umbrella_pairs, whole_trial}
+use Rattle.ofit_sheet.specs.Unbounded.{HasNoBounds}
 use Rattle.ofit_study.specs.Study.{Study, groups_of, problem_stated}
 use Rattle.ofit_tree.specs.declared.direction.Direction.TheVariants.{RootGreatest}
 use Rattle.ofit_tree.specs.Tree.{tree_pairs, tree_problem}

@@ -1,7 +1,9 @@
 ghost use Rattle.std.specs.Prelude.{◌≡◌, ◌+◌, ◌*◌, ◌-◌, ◌^◌, ◌<◌, ◌≤◌, IfOk, length, nat_lt};
+ghost use Rattle.ofit_num.specs.declared.limits.TheConstants.{MOST_WEIGHT};
+ghost use Rattle.ofit_sheet.specs.declared.peaked.limits.TheConstants.{MOST_PEAK_GROUPS};
 ghost use Rattle.std.specs.List.{IsFirstBest};
 ghost use Rattle.ofit_study.specs.Study.{IsValid, names_of, problem_stated};
-ghost use Rattle.ofit_unimodal.specs.Costs.{rise_cost, fall_cost, split_cost, split_costs};
+ghost use Rattle.ofit_unimodal.specs.Costs.{rise_cost, fall_cost, split_costs};
 ghost use Rattle.ofit_sides.specs.Sides.{AreRises, AreFalls};
 
 use ofit_check::cost_of_side;
@@ -12,11 +14,11 @@ use std::alloc::{AllocError, Global};
 /// What the rise of so many groups costs.
 fn cost_of_rise(study: &Study, rises: &[Side], steps: u32) -> u128
     requires valid { IsValid study.now }
-    requires few { length (names_of study.now) ≤ 200 }
+    requires few { length (names_of study.now) ≤ MOST_PEAK_GROUPS }
     requires rises { AreRises (problem_stated study.now) rises.now }
     requires steps { steps ≤ length (names_of study.now) }
     ensures exact { result ≡ rise_cost (problem_stated study.now) rises.now steps }
-    ensures most { result ≤ 2 ^ 64 * 10 ^ 10 * 200 }
+    ensures most { result ≤ 2 ^ 64 * MOST_WEIGHT * MOST_PEAK_GROUPS }
 {
     if steps == 0 {
         return 0;
@@ -27,11 +29,11 @@ fn cost_of_rise(study: &Study, rises: &[Side], steps: u32) -> u128
 /// What the fall from a place on costs.
 fn cost_of_fall(study: &Study, falls: &[Side], start: u32) -> u128
     requires valid { IsValid study.now }
-    requires few { length (names_of study.now) ≤ 200 }
+    requires few { length (names_of study.now) ≤ MOST_PEAK_GROUPS }
     requires falls { AreFalls (problem_stated study.now) falls.now }
     requires start { start ≤ length (names_of study.now) }
     ensures exact { result ≡ fall_cost (problem_stated study.now) falls.now start }
-    ensures most { result ≤ 2 ^ 64 * 10 ^ 10 * 200 }
+    ensures most { result ≤ 2 ^ 64 * MOST_WEIGHT * MOST_PEAK_GROUPS }
 {
     let groups = study.group_count();
     if start == groups {
@@ -48,7 +50,7 @@ pub(crate) fn split_costs(
     rises: &[Side],
     falls: &[Side],
 ) -> Result<Vec<u128>, AllocError>
-    requires few { length (names_of study.now) ≤ 200 }
+    requires few { length (names_of study.now) ≤ MOST_PEAK_GROUPS }
     requires rises { AreRises (problem_stated study.now) rises.now }
     requires falls { AreFalls (problem_stated study.now) falls.now }
     ensures { IfOk result (λ costs. costs.items ≡ split_costs (problem_stated study.now) rises.now falls.now) }

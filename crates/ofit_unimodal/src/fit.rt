@@ -1,4 +1,5 @@
 ghost use Rattle.std.specs.Prelude.{◌≡◌, ◌≤◌, ◌<◌, ◌↔◌, IfOk, Err, None, length};
+ghost use Rattle.ofit_sheet.specs.declared.peaked.limits.TheConstants.{MOST_PEAK_GROUPS};
 ghost use Rattle.ofit_sheet.specs.Peaked.{IsShaped, IsInLimits};
 ghost use Rattle.ofit_sheet.specs.PeakVerdict.{IsPeakVerdict, passes};
 ghost use Rattle.ofit_sheet.specs.Unimodal.{PeakBest};
@@ -10,14 +11,10 @@ ghost use Rattle.ofit_sides.specs.Sides.{AreRises, AreFalls};
 use crate::cost::{cheapest, split_costs};
 use crate::fault::UnimodalFault;
 use crate::peak::fit_umbrella;
-use crate::rows::all_groups;
-use ofit_sheet::{Peaked, Side};
-use ofit_sides::{falls_of, rises_of};
+use ofit_sheet::{MOST_PEAK_GROUPS, Peaked, Side};
+use ofit_sides::{falls_of, groups_in_order, rises_of};
 use ofit_study::Study;
 use std::alloc::{AllocError, Global};
-
-/// The most groups among which a peak is looked for.
-const MOST_GROUPS: u32 = 200;
 
 /// The first best peak, its cost, and the least best values with it.
 #[derive(Drop)]
@@ -44,7 +41,7 @@ fn fit_peak(alloc: Global, study: &Study, rises: &[Side], falls: &[Side]) -> Res
     }
     let costs = split_costs(alloc, study, rises, falls)?;
     let peak = cheapest(costs.as_slice());
-    let groups = all_groups(alloc, study)?;
+    let groups = groups_in_order(alloc, study)?;
     let values = fit_umbrella(alloc, &groups, peak)?;
     Ok(Fit {
         peak: Some(peak),
@@ -60,7 +57,7 @@ fn fit_with_sides(
     rises: Vec<Side>,
     falls: Vec<Side>,
 ) -> Result<Peaked, AllocError>
-    requires few { length (names_of study.now) ≤ 200 }
+    requires few { length (names_of study.now) ≤ MOST_PEAK_GROUPS }
     requires low { study.now.settings.lo ≡ None }
     requires high { study.now.settings.hi ≡ None }
     requires rises { AreRises (problem_stated study.now) rises.items }
@@ -98,13 +95,13 @@ fn fit_with_sides(
 pub fn fit_unimodal(alloc: Global, study: &Study) -> Result<Peaked, UnimodalFault>
     requires low { study.now.settings.lo ≡ None }
     requires high { study.now.settings.hi ≡ None }
-    ensures many { (result ≡ Err TooManyGroups) ↔ (200 < length (names_of study.now)) }
+    ensures many { (result ≡ Err TooManyGroups) ↔ (MOST_PEAK_GROUPS < length (names_of study.now)) }
     ensures best { IfOk result (λ x. PeakBest (problem_stated study.now) x.peak x.cost x.values) }
     ensures passes { IfOk result (λ x. IsPeakVerdict (problem_stated study.now) study.now.settings.places x passes) }
     ensures shaped { IfOk result (IsShaped (length (names_of study.now))) }
     ensures limits { IfOk result IsInLimits }
 {
-    if study.group_count() > MOST_GROUPS {
+    if study.group_count() > MOST_PEAK_GROUPS {
         return Err(UnimodalFault::TooManyGroups);
     }
     let rises = rises_of(alloc, study)?;

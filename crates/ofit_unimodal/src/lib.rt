@@ -11,7 +11,6 @@ mod fault;
 mod fit;
 mod laws;
 mod peak;
-mod rows;
 mod umbrella;
 
 pub use fault::UnimodalFault;

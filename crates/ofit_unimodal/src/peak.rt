@@ -1,4 +1,5 @@
-ghost use Rattle.std.specs.Prelude.{◌≡◌, ◌^◌, ◌<◌, ◌≤◌, All, IfOk, length, unsigned_abs};
+ghost use Rattle.std.specs.Prelude.{◌≡◌, ◌<◌, ◌≤◌, All, IfOk, length, unsigned_abs};
+ghost use Rattle.ofit_num.specs.declared.limits.TheConstants.{MOST_GROUPS, MOST_UNITS};
 ghost use Rattle.ofit_num.specs.Fit.{LeastBest};
 ghost use Rattle.ofit_num.specs.Limits.{all_rows};
 ghost use Rattle.ofit_num.specs.Loss.{median};
@@ -21,11 +22,11 @@ pub(crate) fn fit_umbrella(
 ) -> Result<Vec<i64>, AllocError>
     requires filled { All (λ rows. 0 < length rows) groups.now }
     requires fittable { AreFittable (all_rows groups.now) }
-    requires few { length groups.now ≤ 2000 }
+    requires few { length groups.now ≤ MOST_GROUPS }
     requires peak { peak < length groups.now }
     ensures count { IfOk result (λ values. length values.items ≡ length groups.now) }
     ensures least_best { IfOk result (λ values. LeastBest median (umbrella (lone groups.now) peak) (whole_trial values.items)) }
-    ensures small { IfOk result (λ values. All (λ value. unsigned_abs value ≤ 10 ^ 9) values.items) }
+    ensures small { IfOk result (λ values. All (λ value. unsigned_abs value ≤ MOST_UNITS) values.items) }
 {
     let parents = umbrella_tree(alloc, groups.count(), peak)?;
     let values = fit_tree::<Median>(alloc, groups, parents.as_slice(), Direction::RootGreatest)?;

@@ -12,7 +12,8 @@ use Rattle.ofit_words.specs.declared.fault.WordFault.TheVariants.{LevelOutOfRang
 use Rattle.ofit_words.specs.Commands.{command_name, name_count, has_key, Sets}
 use Rattle.ofit_words.specs.Given.{AreInForce, IsUnknown, IsFine, AreFine}
 use Rattle.ofit_words.specs.Judged.{Judged, HasFault, UnlessMemory}
-use Rattle.ofit_words.specs.Words.{FirstAt, IsCall, WordsRead, IsJobInLimits}
+use Rattle.ofit_words.specs.Words.{FirstAt, IsCall, WordsRead}
+use Rattle.ofit_words.specs.JobLimits.{IsJobInLimits}
 use Rattle.ofit_words.specs.Made.{JobMade, IsNoLevel}
 use Rattle.ofit_words.proofs.Settled.{one_setting, not_false}
 

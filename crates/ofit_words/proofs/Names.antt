@@ -1,8 +1,9 @@
 -- Commands, losses, shapes, orders and bounds have texts of their own.
-use Rattle.std.proofs.Common.{◌≡◌, ℕ, ◌+◌, List, [], ◌∷◌, length, refl, sym, ap, ◌∙◌}
+use Rattle.std.proofs.Common.{◌≡◌, ℕ, ◌+◌, List, [], ◌∷◌, length, refl, sym, ap, ◌∙◌, cond}
 use Rattle.std.proofs.Math.Dec.{eqb}
 use Rattle.std.proofs.lemmas.List.{append_cancel_left}
-use Rattle.std.specs.Prelude.{Bool, true, false, codes, ℤ, Option, Some, None}
+use Rattle.std.specs.Prelude.{codes, ℤ, Option, Some, None}
+use Rattle.ofit_num.proofs.Names.{own_name}
 use Rattle.ofit_num.proofs.Numerals.{IsWhole-number}
 use Rattle.ofit_num.proofs.DecimalTexts.{one_number}
 use Rattle.ofit_study.specs.declared.loss.LossKind.{LossKind}
@@ -18,17 +19,13 @@ use Rattle.ofit_words.specs.Commands.{command_name}
 use Rattle.ofit_words.specs.Values.{IsNumberIn, IsListedLoss, IsKind, IsBound, IsOrder}
 use Rattle.ofit_words.proofs.Settled.{apart0}
 
-abbrev pick : Bool → Command → Command → Command
-pick true c d = c
-pick false c d = d
-
 -- no two names agree in the sum of their first byte and the count of the others
 abbrev mark : List ℕ → ℕ
 mark [] = 0
 mark (b ∷ bs) = b + length bs
 
 abbrev marked : ℕ → Command
-marked n = pick (eqb n 104) Fit (pick (eqb n 119) Report (pick (eqb n 123) Verify (pick (eqb n 121) Session (pick (eqb n 124) Unimodal (pick (eqb n 132) VerifyUnimodal (pick (eqb n 113) Levels Sample))))))
+marked n = cond (eqb n 104) Fit (cond (eqb n 119) Report (cond (eqb n 123) Verify (cond (eqb n 121) Session (cond (eqb n 124) Unimodal (cond (eqb n 132) VerifyUnimodal (cond (eqb n 113) Levels Sample))))))
 
 back : (c : Command) → marked (mark (command_name c)) ≡ c
 back Fit = refl
@@ -41,7 +38,7 @@ back Levels = refl
 back Sample = refl
 
 pub one_command : (c d : Command) → command_name c ≡ command_name d → c ≡ d
-one_command c d e = sym (back c) ∙ ap (λ (t : List ℕ). marked (mark t)) e ∙ back d
+one_command = own_name command_name (λ (t : List ℕ). marked (mark t)) back
 
 pub one_whole : (low high : ℕ) (value : List ℕ) (m n : ℕ) → IsNumberIn low high value m → IsNumberIn low high value n → m ≡ n
 one_whole low high value m n h k = IsWhole-number value m n h.is_whole k.is_whole

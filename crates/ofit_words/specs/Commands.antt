@@ -43,32 +43,19 @@ is_fit_key Loss = true
 is_fit_key Places = true
 is_fit_key Lo = true
 is_fit_key Hi = true
-is_fit_key Seed = false
-is_fit_key Groups = false
-is_fit_key Rows = false
-is_fit_key Shape = false
+is_fit_key key = false
 
 abbrev pub is_peak_key : Key → Bool
-is_peak_key Order = false
-is_peak_key Loss = false
 is_peak_key Places = true
-is_peak_key Lo = false
-is_peak_key Hi = false
-is_peak_key Seed = false
-is_peak_key Groups = false
-is_peak_key Rows = false
-is_peak_key Shape = false
+is_peak_key key = false
 
 abbrev pub is_sample_key : Key → Bool
-is_sample_key Order = false
 is_sample_key Loss = true
-is_sample_key Places = false
-is_sample_key Lo = false
-is_sample_key Hi = false
 is_sample_key Seed = true
 is_sample_key Groups = true
 is_sample_key Rows = true
 is_sample_key Shape = true
+is_sample_key key = false
 
 -- whether the command has the key
 abbrev pub has_key : Command → Key → Bool

@@ -3,5 +3,6 @@ pub mod Values
 pub mod Given
 pub mod Read
 pub mod Words
+pub mod JobLimits
 pub mod Judged
 pub mod Made

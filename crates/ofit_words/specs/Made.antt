@@ -9,7 +9,8 @@ use Rattle.ofit_words.specs.declared.job.Job.{Job}
 use Rattle.ofit_words.specs.declared.fault.WordFault.{WordFault}
 use Rattle.ofit_words.specs.declared.fault.WordFault.TheVariants.{LevelOutOfRange, BoundsCross, Memory}
 use Rattle.ofit_words.specs.Values.{IsNumberIn}
-use Rattle.ofit_words.specs.Words.{SettingsOf, Cross, InputsOf, IsJob, IsJobInLimits}
+use Rattle.ofit_words.specs.Words.{SettingsOf, Cross, InputsOf, IsJob}
+use Rattle.ofit_words.specs.JobLimits.{IsJobInLimits}
 
 -- the command wants a level, and its name isn't one
 abbrev pub IsNoLevel : Command → List (List ℕ) → Type 0

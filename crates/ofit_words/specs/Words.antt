@@ -1,11 +1,10 @@
 -- What the words of a call are read as: a job, or the first fault.
-use Rattle.std.specs.Prelude.{◌≡◌, ℕ, ◌+◌, ◌≤◌, ◌<◌, List, [], ◌∷◌, ◌++◌, length, Option, Some, None, Result, Ok, Err, ℤ, ◌<ℤ◌}
+use Rattle.std.specs.Prelude.{◌≡◌, ℕ, ◌+◌, ◌<◌, List, [], ◌∷◌, ◌++◌, length, Option, Some, None, Result, Ok, Err, ℤ, ◌<ℤ◌}
 use Rattle.ofit_num.specs.declared.limits.TheConstants.{MOST_GROUPS}
 use Rattle.ofit_study.specs.declared.loss.LossKind.TheVariants.{Squares}
 use Rattle.ofit_study.specs.declared.settings.Settings.{Settings}
 use Rattle.ofit_study.specs.declared.pattern.Pattern.TheVariants as pattern
-use Rattle.ofit_study.specs.Loss.{IsListed}
-use Rattle.ofit_study.specs.Settings.{InOrder, InLimits}
+use Rattle.ofit_study.specs.Settings.{InOrder}
 use Rattle.ofit_words.specs.declared.command.Command.{Command}
 use Rattle.ofit_words.specs.declared.command.Command.TheVariants as commands
 use Rattle.ofit_words.specs.declared.key.Key.TheVariants.{Order, Loss, Places, Lo, Hi, Seed, Groups, Rows, Shape}
@@ -56,9 +55,8 @@ pub record SettingsOf (words : List (List ℕ)) (settings : Settings) : Type 0 w
 
 -- lo is above hi
 abbrev pub Cross : Option ℤ → Option ℤ → Type 0
-Cross None hi = ⊥
-Cross (Some l) None = ⊥
 Cross (Some l) (Some h) = h <ℤ l
+Cross lo hi = ⊥
 
 pub record InputsOf (name : List ℕ) (words : List (List ℕ)) (inputs : Inputs) : Type 0 where
   pub table : inputs.table ≡ name
@@ -97,14 +95,3 @@ WordsRead words (Err (RepeatedSetting place)) = (command : Command) × (places :
 WordsRead words (Err (BadSetting place)) = (command : Command) × (places : ℕ) × (groups : ℕ) × (before : List (List ℕ)) × (word : List ℕ) × FirstAt words place command places groups before word × IsBad command places groups before word
 WordsRead words (Err BoundsCross) = (command : Command) × (names : List (List ℕ)) × (words' : List (List ℕ)) × (settings : Settings) × AllFine words command names words' × SettingsOf words' settings × Cross settings.lo settings.hi
 WordsRead words (Err Memory) = ⊥
-
--- a job that each call which takes one may be given
-abbrev pub IsJobInLimits : Job → Type 0
-IsJobInLimits (Fit inputs) = InLimits inputs.settings
-IsJobInLimits (Report inputs) = InLimits inputs.settings
-IsJobInLimits (Verify inputs sheet) = InLimits inputs.settings
-IsJobInLimits (Session inputs script) = InLimits inputs.settings
-IsJobInLimits (Unimodal table places) = places ≤ 6
-IsJobInLimits (VerifyUnimodal table sheet places) = places ≤ 6
-IsJobInLimits (Levels k) = (1 ≤ k) × (k ≤ 34)
-IsJobInLimits (Sample job) = (1 ≤ job.groups) × (job.groups ≤ MOST_GROUPS) × (job.groups ≤ job.rows) × (job.rows ≤ 10000) × IsListed job.loss

@@ -1,4 +1,4 @@
-ghost use Rattle.std.specs.Prelude.{◌≡◌, ◌≤◌, List, ℕ, map, string_bytes, option_copied, MatchOption};
+ghost use Rattle.std.specs.Prelude.{◌≤◌, List, ℕ, map, string_bytes, option_copied, MatchOption};
 ghost use Rattle.ofit_words.specs.Commands.{Sets};
 ghost use Rattle.ofit_words.specs.Values.{IsNumberIn};
 ghost use Rattle.ofit_words.specs.Given.{Given, InForce, AreInForce};

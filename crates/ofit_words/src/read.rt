@@ -6,7 +6,8 @@ ghost use Rattle.ofit_words.specs.declared.command.Command.TheVariants.{Levels};
 ghost use Rattle.ofit_words.specs.Commands.{name_count, command_name};
 ghost use Rattle.ofit_words.specs.Given.{AreInForce};
 ghost use Rattle.ofit_words.specs.Read.{AreRead};
-ghost use Rattle.ofit_words.specs.Words.{SettingsOf, SampleOf, Cross, IsLevel, IsJobInLimits, WordsRead};
+ghost use Rattle.ofit_words.specs.Words.{SettingsOf, SampleOf, Cross, IsLevel, WordsRead};
+ghost use Rattle.ofit_words.specs.JobLimits.{IsJobInLimits};
 ghost use Rattle.ofit_words.specs.Made.{IsNoLevel, InputsMade, JobMade};
 
 use crate::command::{Command, command_of, names_of};

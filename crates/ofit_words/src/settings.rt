@@ -1,5 +1,4 @@
-ghost use Rattle.std.specs.Prelude.{◌≡◌, ◌≤◌, ◌+◌, List, ℕ, map, string_bytes, IfOk, length};
-ghost use Rattle.ofit_words.specs.Commands.{name_count};
+ghost use Rattle.std.specs.Prelude.{◌≤◌, ◌+◌, List, ℕ, map, string_bytes, IfOk};
 ghost use Rattle.ofit_words.specs.Judged.{Judged, Checked};
 ghost use Rattle.ofit_words.specs.Read.{AreRead, IsRead};
 

@@ -1,4 +1,4 @@
-ghost use Rattle.std.specs.Prelude.{◌≡◌, ◌≤◌, ℕ, ℤ, Some, IfOk, MatchOption};
+ghost use Rattle.std.specs.Prelude.{◌≤◌, ℕ, ℤ, Some, IfOk, MatchOption};
 ghost use Rattle.ofit_study.specs.declared.loss.LossKind.{LossKind as TheLoss};
 ghost use Rattle.ofit_words.specs.declared.job.Kind.{Kind as TheKind};
 ghost use Rattle.ofit_words.specs.declared.job.OrderChoice.{OrderChoice as TheOrder};

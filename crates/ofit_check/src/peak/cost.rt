@@ -1,14 +1,14 @@
 ghost use Rattle.std.specs.Prelude.{◌≡◌, ◌+◌, ◌*◌, ◌-◌, ◌^◌, ◌<◌, ◌≤◌, ◌↔◌, IsTrue, length, unsigned_abs};
 ghost use Rattle.ofit_num.specs.declared.limits.TheConstants.{MOST_UNITS, MOST_WEIGHT};
 ghost use Rattle.ofit_num.specs.Fit.{trial_cost};
-ghost use Rattle.ofit_num.specs.Limits.{AreWithinLimits};
+ghost use Rattle.ofit_num.specs.RowLimits.{AreWithinLimits};
 ghost use Rattle.ofit_num.specs.Loss.{median};
 ghost use Rattle.ofit_sheet.specs.declared.peaked.limits.TheConstants.{MOST_PEAK_GROUPS};
 ghost use Rattle.ofit_sheet.specs.Peaked.{IsShaped};
 ghost use Rattle.ofit_sheet.specs.PeakVerdict.{rise_cost, fall_cost, IsReached};
 ghost use Rattle.ofit_sheet.specs.Unimodal.{whole_trial};
 ghost use Rattle.ofit_study.specs.Study.{IsValid, names_of, problem_stated};
-ghost use Rattle.ofit_check.specs.Peak.{distance, side_cost};
+ghost use Rattle.ofit_check.specs.PeakSteps.{distance, side_cost};
 
 use ofit_num::Row;
 use ofit_sheet::{Peaked, Side};

@@ -1,4 +1,4 @@
-ghost use Rattle.std.specs.Prelude.{◌≡◌, ◌↔◌, ◌+◌, ◌-◌, ◌<◌, ◌^◌, IsTrue, length};
+ghost use Rattle.std.specs.Prelude.{◌↔◌, ◌+◌, ◌-◌, ◌<◌, ◌^◌, IsTrue, length};
 ghost use Rattle.ofit_sheet.specs.Peaked.{IsShaped};
 ghost use Rattle.ofit_sheet.specs.PeakVerdict.{KeepsShape};
 ghost use Rattle.ofit_study.specs.Study.{names_of};

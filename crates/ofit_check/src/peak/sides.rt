@@ -4,7 +4,7 @@ ghost use Rattle.ofit_sheet.specs.Peaked.{IsShaped};
 ghost use Rattle.ofit_sheet.specs.PeakVerdict.{IsReached};
 ghost use Rattle.ofit_study.specs.Study.{names_of, problem_stated};
 ghost use Rattle.ofit_check.specs.Check.{IsFirstFailure};
-ghost use Rattle.ofit_check.specs.Peak.{IsFirstRise, IsFirstFall};
+ghost use Rattle.ofit_check.specs.PeakSteps.{IsFirstRise, IsFirstFall};
 
 use crate::peak::cost::is_reached;
 use crate::peak::slope::Slope;

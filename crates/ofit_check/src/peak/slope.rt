@@ -1,5 +1,5 @@
 ghost use Rattle.std.specs.Prelude.{◌↔◌, IsTrue};
-ghost use Rattle.ofit_check.specs.Peak.{AreInOrder};
+ghost use Rattle.ofit_check.specs.PeakSteps.{AreInOrder};
 
 /// Which way a side goes.
 #[derive(Clone, Copy)]

@@ -1,10 +1,10 @@
-ghost use Rattle.std.specs.Prelude.{◌≡◌, ◌↔◌, ◌+◌, ◌<◌, ◌≤◌, ◌^◌, All, IsTrue, length, pos, ◌≤ℤ◌, ◌-ℤ◌};
+ghost use Rattle.std.specs.Prelude.{◌≡◌, ◌↔◌, ◌+◌, ◌<◌, ◌≤◌, All, IsTrue, length, pos, ◌≤ℤ◌, ◌-ℤ◌};
 ghost use Rattle.ofit_sheet.specs.declared.peaked.limits.TheConstants.{MOST_PEAK_GROUPS};
 ghost use Rattle.ofit_sheet.specs.PeakVerdict.{value_at, amount_at, amount_before, IsInSpan, JoinsEqual};
 ghost use Rattle.ofit_loss.specs.Rows.{AreFittable};
 ghost use Rattle.ofit_study.specs.Study.{names_of, problem_stated};
 ghost use Rattle.ofit_check.specs.Check.{IsFirstFailure};
-ghost use Rattle.ofit_check.specs.Peak.{KeepsOrder, IsStep, step_balance};
+ghost use Rattle.ofit_check.specs.PeakSteps.{KeepsOrder, IsStep, step_balance};
 
 use crate::peak::slope::Slope;
 use ofit_loss::{Loss, Median};

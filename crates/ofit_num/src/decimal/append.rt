@@ -1,5 +1,6 @@
-ghost use Rattle.std.specs.Prelude.{◌≡◌, ◌++◌, ◌≤◌, ◌<◌, ◌^◌, List, ℕ, OnOk, OnErr, unsigned_abs};
-ghost use Rattle.ofit_num.specs.DecimalText.{IsFixed, ArePadded, minus_of, pointed};
+ghost use Rattle.std.specs.Prelude.{◌≡◌, ◌++◌, ◌≤◌, ◌<◌, ◌^◌, List, ℕ, OnOk, OnErr};
+ghost use Rattle.ofit_num.specs.DecimalText.{IsFixed, minus_of, pointed};
+ghost use Rattle.ofit_num.specs.Digits.{ArePadded};
 
 use crate::text::append_whole;
 use std::alloc::AllocError;

@@ -1,7 +1,8 @@
 ghost use Rattle.std.specs.Prelude.{◌≡◌, ◌↔◌, ◌+◌, ◌-◌, ◌*◌, ◌≤◌, ◌<◌, ◌^◌, ◌++◌, List, ℕ, length, take, drop, IsTrue, MatchOption};
 ghost use Rattle.std.specs.List.{AllByRecursion};
 ghost use Rattle.ofit_num.specs.NumberText.{IsDigit, spelled_after};
-ghost use Rattle.ofit_num.specs.DecimalText.{IsSpaces, Stops};
+ghost use Rattle.ofit_num.specs.DecimalText.{IsSpaces};
+ghost use Rattle.ofit_num.specs.Digits.{Stops};
 
 /// What follows the spaces at the front.
 pub(super) fn after_spaces(text: &[u8]) -> &[u8]

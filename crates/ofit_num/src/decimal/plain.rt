@@ -1,13 +1,13 @@
-ghost use Rattle.std.specs.Prelude.{◌≡◌, ◌+◌, ◌≤◌, ◌<◌, ◌^◌, ◌++◌, ℕ, IfSome, length, pos};
+ghost use Rattle.std.specs.Prelude.{◌≡◌, ◌+◌, ◌-◌, ◌*◌, ◌≤◌, ◌<◌, ◌^◌, ◌++◌, List, ℕ, IfSome, MatchOption, length, drop, pos};
 ghost use Rattle.std.specs.List.{AllByRecursion};
 ghost use Rattle.ofit_num.specs.NumberText.{IsDigit, spelled_after};
-ghost use Rattle.ofit_num.specs.DecimalText.{IsDecimal, IsScaled};
+ghost use Rattle.ofit_num.specs.DecimalText.{IsDecimal, IsScaled, IsUnsigned};
 
-use crate::decimal::digits::digits_of;
-use crate::decimal::{after_sign, fraction_of};
+use crate::decimal::after_sign;
 
-/// The most digits of a plain decimal.
-const MOST_DIGITS: usize = 12;
+/// The most bytes of a plain decimal: those of a number of 1,000,000,000 units at most, at any places. A number
+/// of so many digits fits, and so it does with as many zeros behind it as places.
+const MOST_BYTES: usize = 12;
 
 /// A number of units with or without a minus sign.
 #[derive(Clone, Copy)]
@@ -16,44 +16,82 @@ pub(super) struct Plain {
     pub(super) size: u64,
 }
 
-/// The number that the digits spell after those of `number`.
-fn short(number: u64, digits: &[u8]) -> u64
-    requires digits { AllByRecursion IsDigit digits.now }
-    requires small { spelled_after number digits.now < 2 ^ 64 }
-    ensures { result ≡ spelled_after number digits.now }
+/// The number that digits spell, and how many of them stand behind the point.
+#[derive(Clone, Copy)]
+struct Spelled {
+    number: u64,
+    behind: usize,
+}
+
+/// The digit that the byte is.
+fn digit_of(byte: u8) -> Option<u64>
+    ensures { MatchOption result (IsDigit byte → ⊥) (λ d. IsDigit byte × (d ≡ byte - 48)) }
+{
+    let digit = u64::from(byte).wrapping_sub(48);
+    if digit <= 9 { Some(digit) } else { None }
+}
+
+/// The number that the digits from an index on spell after those of `number`, and the index behind them.
+fn digits_from(text: &[u8], start: usize, number: u64) -> (u64, usize)
+    requires start { start ≤ length text.now }
+    requires room { (number + 1) * 10 ^ length (drop start text.now) ≤ 10 ^ 12 }
+    ensures within { result.1 ≤ length text.now }
+    ensures spells { (digits : List ℕ) × AllByRecursion IsDigit digits × (drop start text.now ≡ digits ++ drop result.1 text.now) × (result.0 ≡ spelled_after number digits) }
+    ensures room { (result.0 + 1) * 10 ^ length (drop result.1 text.now) ≤ 10 ^ 12 }
 {
     let mut longer = number;
-    for digit in digits {
-        longer = longer * 10 + u64::from(*digit - b'0');
+    for index in start..text.len() {
+        match digit_of(text[index]) {
+            Some(digit) => longer = longer * 10 + digit,
+            None => return (longer, index),
+        }
     }
-    longer
+    (longer, text.len())
 }
 
-fn ten_to(power: u32) -> u64
-    requires { power ≤ 6 }
-    ensures { result ≡ 10 ^ power }
+/// The number of digits with at most one point behind the first, where the text is nothing else.
+fn spelled_of(text: &[u8]) -> Option<Spelled>
+    requires { length text.now ≤ 12 }
+    ensures spells { IfSome result (λ s. IsUnsigned text.now s.number s.behind (pos 0)) }
+    ensures few { IfSome result (λ s. s.number < 10 ^ 12) }
 {
-    match power {
-        0 => 1,
-        1 => 10,
-        2 => 100,
-        3 => 1_000,
-        4 => 10_000,
-        5 => 100_000,
-        _ => 1_000_000,
+    let (whole, point) = digits_from(text, 0, 0);
+    if point == 0 {
+        return None;
     }
+    if point == text.len() {
+        return Some(Spelled {
+            number: whole,
+            behind: 0,
+        });
+    }
+    if text[point] != b'.' {
+        return None;
+    }
+    let (number, end) = digits_from(text, point + 1, whole);
+    if end < text.len() {
+        return None;
+    }
+    Some(Spelled {
+        number,
+        behind: end - point - 1,
+    })
 }
 
-/// The number of units that digits before and behind a point spell.
-fn units(whole: &[u8], fraction: &[u8], places: u32) -> u64
-    requires digits { AllByRecursion IsDigit (whole.now ++ fraction.now) }
-    requires few { length whole.now + length fraction.now ≤ 12 }
-    requires fine { length fraction.now ≤ places }
+/// The number in units of 10^(-places), where it is a whole number of them.
+fn units(spelled: Spelled, places: u32) -> Option<u64>
+    requires number { spelled.number < 10 ^ 12 }
     requires places { places ≤ 6 }
-    ensures scaled { IsScaled (spelled_after 0 (whole.now ++ fraction.now)) (length fraction.now) (pos 0) places result }
+    ensures { IfSome result (λ n. IsScaled spelled.number spelled.behind (pos 0) places n) }
 {
-    let number = short(short(0, whole), fraction);
-    number * ten_to(places - fraction.len() as u32)
+    if spelled.behind > places as usize {
+        return None;
+    }
+    let mut size = spelled.number;
+    for _ in spelled.behind as u32..places {
+        size *= 10;
+    }
+    Some(size)
 }
 
 /// The number of units of 10^(-places) of a short decimal without spaces or a power of ten. None where the
@@ -62,15 +100,11 @@ pub(super) fn plain_of(text: &[u8], places: u32) -> Option<Plain>
     requires { places ≤ 6 }
     ensures { IfSome result (λ p. (m f : ℕ) × IsDecimal text.now p.negative m f (pos 0) × IsScaled m f (pos 0) places p.size) }
 {
-    let (negative, number) = after_sign(text);
-    let (whole, rest) = digits_of(number);
-    let (fraction, rest) = fraction_of(rest);
-    let count = whole.len() + fraction.len();
-    if rest.len() > 0 || count == 0 || count > MOST_DIGITS || fraction.len() > places as usize {
+    if text.len() > MOST_BYTES {
         return None;
     }
-    Some(Plain {
-        negative,
-        size: units(whole, fraction, places),
-    })
+    let (negative, number) = after_sign(text);
+    let spelled = spelled_of(number)?;
+    let size = units(spelled, places)?;
+    Some(Plain { negative, size })
 }

@@ -9,7 +9,8 @@ ghost use Rattle.ofit_sheet.specs.declared.fault.SheetFault.TheVariants as fault
 ghost use Rattle.ofit_sheet.specs.Peaked.{Peaked, IsShaped, IsInLimits};
 ghost use Rattle.ofit_sheet.specs.PeakedRead.{PeakedRead};
 ghost use Rattle.ofit_sheet.specs.PeakedText.{peaked_text};
-ghost use Rattle.ofit_sheet.specs.Unimodal.{IsUnimodal, HasNoBounds, umbrella};
+ghost use Rattle.ofit_sheet.specs.Unimodal.{IsUnimodal, umbrella};
+ghost use Rattle.ofit_sheet.specs.Unbounded.{HasNoBounds};
 
 /// A peaked sheet's text is read as that sheet, whatever the groups are called: each one that has the
 /// shape of those of so many groups and keeps the limits of what is printed.

@@ -1,4 +1,4 @@
-ghost use Rattle.std.specs.Prelude.{◌≡◌, ◌<◌, ◌≤◌, ◌+◌, ◌^◌, ◌∷◌, ◌++◌, [], ◌≤ℤ◌, IfOk, All, length, map, pos, suc, vec_len};
+ghost use Rattle.std.specs.Prelude.{◌≡◌, ◌<◌, ◌≤◌, ◌+◌, ◌^◌, ◌≤ℤ◌, IfOk, All, length, map, pos, suc, vec_len};
 ghost use Rattle.std.specs.List.{flat_map, range_with_len};
 ghost use Rattle.ofit_num.specs.declared.limits.TheConstants.{LONGEST_FILE};
 ghost use Rattle.ofit_records.specs.Records.{records_of};
@@ -186,7 +186,7 @@ fn read_records(alloc: Global, cursor: &mut Cursor<'_>, study: &Study) -> Result
 }
 
 /// The peaked sheet that bytes spell, for the study that names the groups, or their first fault.
-/// Expected time linear in the bytes, and memory linear in the sheet.
+/// Expected time linear in the bytes, and memory linear in the sheet and its longest record.
 pub fn read_peaked(alloc: Global, bytes: &[u8], study: &Study) -> Result<Peaked, SheetFault>
     requires length { length bytes.now ≤ LONGEST_FILE }
     requires few { length (names_of study.now) ≤ MOST_PEAK_GROUPS }

@@ -1,4 +1,4 @@
-ghost use Rattle.std.specs.Prelude.{◌≡◌, ◌↔◌, ◌<◌, ◌∷◌, [], ℕ, List, IsTrue, MatchOption, Some, slice_get, length, pos};
+ghost use Rattle.std.specs.Prelude.{◌≡◌, ◌↔◌, ◌<◌, ◌∷◌, [], ℕ, List, IsTrue, MatchOption, Some, length, pos};
 ghost use Rattle.csv.specs.Records.{fields_of};
 ghost use Rattle.ofit_num.specs.declared.limits.TheConstants.{MOST_GROUPS};
 ghost use Rattle.ofit_study.specs.Study.{names_of};

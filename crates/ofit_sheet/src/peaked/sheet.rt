@@ -4,9 +4,10 @@ ghost use Rattle.ofit_sheet.specs.Peaked.{rise_at, fall_at};
 use crate::peaked::side::Side;
 use std::marker::Model;
 
-/// The fit of an unknown peak, with what certifies it: the decimal places of its units, the place of
-/// the peak, the cost of the values, the values, and the sides. Rise i is a chain fit of the first i
-/// groups, fall i one of the groups from the place i on.
+/// A peaked sheet: the decimal places of its units, the place of the peak, the cost of the values, the
+/// values, and the sides. Rise i is of the first i groups, fall i of the groups from the place i on. In
+/// the sheet of a fit the sides are chain fits, which certify the values; one that is read has the shape
+/// alone, and the checker tells the rest.
 #[derive(Drop)]
 pub struct Peaked {
     places: u32,

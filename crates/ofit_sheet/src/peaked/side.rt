@@ -2,8 +2,8 @@ ghost use Rattle.std.specs.Prelude.{◌≡◌, ◌<◌, length, Some, slice_get}
 
 use std::marker::Model;
 
-/// A chain fit of the first or of the last groups: for each of them its value and the amount that
-/// certifies it.
+/// A side of a peaked sheet, of the first or of the last groups: for each of them a value and an amount.
+/// In the sheet of a fit it is a chain fit with the amounts that certify it.
 #[derive(Drop)]
 pub struct Side {
     steps: Vec<(i64, i128)>,

@@ -5,7 +5,8 @@ ghost use Rattle.ofit_records.specs.Written.{record_text, records_text};
 ghost use Rattle.ofit_study.specs.Study.{names_of};
 ghost use Rattle.ofit_sheet.specs.declared.peaked.limits.TheConstants.{MOST_PEAK_GROUPS};
 ghost use Rattle.ofit_sheet.specs.Peaked.{IsShaped};
-ghost use Rattle.ofit_sheet.specs.PeakedText.{sides_of, peaked_header_fields, peak_fields, peaked_value_fields, value_records, step_fields, side_start, side_fields, side_records, sides_records, peaked_text};
+ghost use Rattle.ofit_sheet.specs.PeakedText.{peaked_header_fields, peak_fields, peaked_value_fields, value_records, step_fields, side_start, side_fields, side_records, sides_records, peaked_text};
+ghost use Rattle.ofit_sheet.specs.Sides.{sides_of};
 ghost use Rattle.ofit_study.specs.FieldText.{dash};
 
 use crate::peaked::sheet::Peaked;

@@ -5,7 +5,7 @@ use Rattle.std.proofs.lemmas.Cmp.{ranked}
 use Rattle.std.proofs.lemmas.Int.{ints, to_z-of_z}
 use Rattle.std.proofs.lemmas.Option.{slice_get_within, slice_get-get_or, get_or_from_slice_get}
 use Rattle.std.specs.Prelude.{ℤ, pos, ◌≤ℤ◌, slice_get, Some, unsigned_abs}
-use Rattle.ofit_num.specs.Problem.{HasDistinctPairs}
+use Rattle.ofit_num.specs.ProblemPairs.{HasDistinctPairs}
 use Rattle.ofit_sheet.specs.Parts.{flow_of}
 use Rattle.ofit_study.specs.Study.{problem_stated}
 use Rattle.ofit_study.proofs.Pushing.{slice_get-Contains}

@@ -1,5 +1,5 @@
 use Rattle.ofit_study.specs.Study.{problem_stated}
-use Rattle.ofit_num.specs.Clipped.{without_bounds}
+use Rattle.ofit_num.specs.Unbounded.{without_bounds}
 use Rattle.std.proofs.Common.{ℕ, refl, ◌↔◌, arith, List, map, slice_index, subst, sym, ◌∙◌}
 use Rattle.std.proofs.lemmas.Result.{IfOk-weaker}
 use Rattle.std.specs.Prelude.{Vec}

@@ -1,5 +1,5 @@
 use Rattle.ofit_study.specs.Study.{problem_stated}
-use Rattle.ofit_num.specs.Clipped.{without_bounds}
+use Rattle.ofit_num.specs.Unbounded.{without_bounds}
 use Rattle.ofit_fit.proofs.Ready.{members_places, for_members}
 use Rattle.ofit_fit.proofs.component.fit_form.Goals as goal
 

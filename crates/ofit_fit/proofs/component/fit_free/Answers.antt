@@ -1,4 +1,4 @@
-use Rattle.ofit_num.specs.Clipped.{without_bounds}
+use Rattle.ofit_num.specs.Unbounded.{without_bounds}
 use Rattle.std.proofs.Common.{rules, ◌≡◌, ℕ, List, subst}
 use Rattle.std.specs.Prelude.{IfOk}
 use Rattle.ofit_num.specs.Meaning.{Meaning}

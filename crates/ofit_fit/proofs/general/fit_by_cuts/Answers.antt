@@ -1,4 +1,4 @@
-use Rattle.ofit_num.specs.Clipped.{without_bounds}
+use Rattle.ofit_num.specs.Unbounded.{without_bounds}
 use Rattle.std.proofs.Common.{ℕ, ◌<◌, ◌↔◌, arith, refl, List, map, length, subst, sym, ap}
 use Rattle.std.proofs.lemmas.Result.{IfOk-weaker}
 use Rattle.std.proofs.lemmas.List.{length-map}

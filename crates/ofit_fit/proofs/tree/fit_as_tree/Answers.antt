@@ -1,4 +1,4 @@
-use Rattle.ofit_num.specs.Clipped.{without_bounds}
+use Rattle.ofit_num.specs.Unbounded.{without_bounds}
 use Rattle.std.proofs.Common.{ℕ, refl, ◌<◌, ◌↔◌, List, length, subst, sym}
 use Rattle.std.proofs.lemmas.Result.{IfOk-weaker}
 use Rattle.std.specs.Prelude.{All, Vec, Option}

@@ -1,6 +1,6 @@
 use Rattle.std.proofs.Common.{◌≡◌, ℕ, List, length, slice_index, Vec, Global, arith, sym, subst, ap, ◌∙◌}
 use Rattle.std.proofs.lemmas.List.{get_or_default}
-use Rattle.ofit_order.specs.Relation.{AreWithin}
+use Rattle.ofit_order.specs.Within.{AreWithin}
 use Rattle.ofit_order.specs.Form.{higher_count, lower_count}
 use Rattle.ofit_order.specs.Rows.{rows_of, AreNeighbours, ArePartsBelow}
 use Rattle.ofit_order.specs.Search.{IsNumbering}

@@ -2,7 +2,7 @@ use Rattle.std.proofs.Common.{◌≢◌, ◌++◌, ◌∙◌, List, ℕ, Bor, ma
 use Rattle.csv.specs.Writing.{row_text, writer_setup}
 use Rattle.csv.specs.declared.writer.WriterBuilder.{WriterBuilder}
 use Rattle.csv.specs.declared.writer.QuoteStyle.TheVariants as style
-use Rattle.ofit_records.specs.Written.{text_given}
+use Rattle.ofit_records.specs.Writing.{text_given}
 use Rattle.ofit_records.proofs.WrittenText.{same_text, told}
 use Rattle.ofit_records.proofs.writer.writes.Goals as goal
 

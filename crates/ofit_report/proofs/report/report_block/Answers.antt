@@ -4,7 +4,7 @@ use Rattle.std.proofs.lemmas.Result.{on_ok_weaker}
 use Rattle.std.specs.Prelude.{unsigned_abs}
 use Rattle.ofit_num.specs.declared.row.Row.{Row}
 use Rattle.ofit_num.specs.Fraction.{Fraction}
-use Rattle.ofit_num.specs.Limits.{AreWithinLimits}
+use Rattle.ofit_num.specs.RowLimits.{AreWithinLimits}
 use Rattle.ofit_order.proofs.Uniqueness.{HasComponent-below}
 use Rattle.ofit_study.specs.declared.settings.Settings.{Settings}
 use Rattle.ofit_study.specs.Study.{names_of, meaning_of}

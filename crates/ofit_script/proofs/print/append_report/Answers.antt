@@ -10,11 +10,13 @@ returns-clause-ok c =
     (λ e. (
       report_text c.args.number c.in_ok-report.report.items,
       record {
-        values = c.args.session.now.values;
-        least_best = c.study-study.ensures.fit;
-        lowest = c.in_ok-report.ensures.lowest;
         report = c.in_ok-report.report.items;
-        told = c.in_ok-report.ensures.told;
+        is_report = record {
+          values = c.args.session.now.values;
+          least_best = c.study-study.ensures.fit;
+          lowest = c.in_ok-report.ensures.lowest;
+          printed = c.in_ok-report.ensures.told;
+        };
         stays = refl;
         none = refl;
         printed = refl;

@@ -3,7 +3,7 @@ use Rattle.ofit_num.specs.Sheet as num
 use Rattle.ofit_study.specs.declared.settings.Settings.{Settings}
 use Rattle.ofit_study.specs.Settings.{InLimits}
 use Rattle.ofit_study.specs.Study.{names_of}
-use Rattle.ofit_sheet.specs.Kept.{ArePartsOfSheet}
+use Rattle.ofit_sheet.specs.Made.{ArePartsOfSheet}
 use Rattle.ofit_sheet.specs.SheetRead.{settings_of}
 use Rattle.ofit_sheet.specs.Told.{Told}
 use Rattle.ofit_sheet.proofs.Reached.{rest_fault, parts_so, limits_so, few_values, few_flows, sheet_fits, spelled_by}

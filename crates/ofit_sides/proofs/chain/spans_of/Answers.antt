@@ -4,7 +4,7 @@ use Rattle.std.specs.Prelude.{slice_get, Some}
 use Rattle.ofit_num.specs.declared.row.Row.{Row}
 use Rattle.ofit_num.specs.Fraction.{Fraction}
 use Rattle.ofit_num.specs.Loss.{median}
-use Rattle.ofit_num.specs.Problem.{no_bounds}
+use Rattle.ofit_num.specs.Unbounded.{no_bounds}
 use Rattle.ofit_num.specs.Tight.{value_at as own}
 use Rattle.ofit_cut.specs.declared.span.Span.{Span}
 use Rattle.ofit_cut.specs.Span.{span_at}

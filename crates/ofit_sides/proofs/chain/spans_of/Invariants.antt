@@ -1,6 +1,6 @@
 use Rattle.std.proofs.Common.{◌≡◌, ◌<◌, ℕ, length}
 use Rattle.ofit_num.specs.Loss.{median}
-use Rattle.ofit_num.specs.Problem.{no_bounds}
+use Rattle.ofit_num.specs.Unbounded.{no_bounds}
 use Rattle.ofit_num.specs.Tight.{value_at as own}
 use Rattle.ofit_cut.specs.Span.{span_at}
 use Rattle.ofit_cert.specs.OpenSpans.{open_span}

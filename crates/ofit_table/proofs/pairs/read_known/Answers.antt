@@ -11,7 +11,7 @@ returns-in-Err-note_pair c =
     let names = names_of c.args.study.now in
     let next : c.loop-known.records ≡ fields ∷ c.read_next.new.self = c.in-Ok-true.ensures.more c.in-Ok-true.field-0-test in
     let so = subst (λ (left : List (List (List ℕ))). IsReadSoFar c.args.columns names c.args.records left c.loop-known.number c.loop-known.known) next c.loop-known.invariant in
-    too_many_found c.args.columns names c.args.records c.read_next.new.self fields c.loop-known.number c.loop-known.known c.in-Ok.pair c.in-Err-note_pair.fault so c.in-Ok.ensures.ok c.in-Err-note_pair.ensures.err
+    too_many_found c.args.columns c.args.study.now c.args.records c.read_next.new.self fields c.loop-known.number c.loop-known.known c.in-Ok.pair c.in-Err-note_pair.fault so c.in-Ok.ensures.ok c.in-Err-note_pair.ensures.err
 
 pub loop-known-preserved : goal.loop-known-preserved
 loop-known-preserved c =

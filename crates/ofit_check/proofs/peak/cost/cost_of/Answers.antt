@@ -4,7 +4,7 @@ use Rattle.std.specs.Int.{w64}
 use Rattle.std.specs.Prelude.{ℤ, pos}
 use Rattle.ofit_num.specs.declared.row.Row.{Row}
 use Rattle.ofit_num.specs.Loss.{row_sum}
-use Rattle.ofit_check.specs.Peak.{distance}
+use Rattle.ofit_check.specs.PeakSteps.{distance}
 use Rattle.ofit_check.proofs.PeakCosts.{distances_more, weight_more, distances_cost}
 use Rattle.ofit_check.proofs.peak.cost.cost_of.Goals as goal
 

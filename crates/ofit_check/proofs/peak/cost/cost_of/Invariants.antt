@@ -1,7 +1,7 @@
 use Rattle.std.proofs.Common.{◌≡◌, ◌≤◌, ◌*◌, ◌^◌, take}
 use Rattle.ofit_num.specs.Limits.{total_weight}
 use Rattle.ofit_num.specs.Loss.{row_sum}
-use Rattle.ofit_check.specs.Peak.{distance}
+use Rattle.ofit_check.specs.PeakSteps.{distance}
 use Rattle.ofit_check.proofs.peak.cost.cost_of.Given as goal
 
 abbrev pub invariant-loop-row : goal.invariant-loop-row

@@ -1,7 +1,7 @@
 use Rattle.std.proofs.Common.{◌≡◌, ◌≤◌, ◌*◌, ◌^◌}
 use Rattle.ofit_num.specs.declared.limits.TheConstants.{MOST_WEIGHT}
 use Rattle.ofit_study.specs.Study.{problem_stated}
-use Rattle.ofit_check.specs.Peak.{side_cost}
+use Rattle.ofit_check.specs.PeakSteps.{side_cost}
 use Rattle.ofit_check.proofs.peak.cost.cost_of_side.Given as goal
 
 abbrev pub invariant-loop-index : goal.invariant-loop-index

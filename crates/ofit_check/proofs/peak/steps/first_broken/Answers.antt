@@ -1,6 +1,6 @@
 use Rattle.std.proofs.Common.{ℕ, ◌+◌}
 use Rattle.ofit_study.specs.Study.{problem_stated}
-use Rattle.ofit_check.specs.Peak.{IsStep}
+use Rattle.ofit_check.specs.PeakSteps.{IsStep}
 use Rattle.ofit_check.proofs.PeakSteps.{below_more}
 use Rattle.ofit_check.proofs.peak.steps.first_broken.Goals as goal
 

@@ -5,7 +5,7 @@ use Rattle.std.specs.Prelude.{ℤ, IsTrue, ◌↔◌}
 use Rattle.ofit_num.specs.declared.row.Row.{Row}
 use Rattle.ofit_study.specs.Study.{groups_of}
 use Rattle.ofit_sheet.specs.PeakVerdict.{value_at, IsInSpan}
-use Rattle.ofit_check.specs.Peak.{step_balance}
+use Rattle.ofit_check.specs.PeakSteps.{step_balance}
 use Rattle.ofit_span.proofs.Fittable.{rows_fittable}
 use Rattle.ofit_check.proofs.PeakSteps.{value_there, rows_there}
 use Rattle.ofit_check.proofs.peak.steps.is_balanced.Goals as goal

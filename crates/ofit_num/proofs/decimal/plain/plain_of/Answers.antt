@@ -1,17 +1,11 @@
-use Rattle.std.proofs.Common.{◌∙◌, ◌++◌, ℕ, List, [], length, length-append, ap, refl, inl, arith}
-use Rattle.ofit_num.specs.NumberText.{spelled_after}
-use Rattle.ofit_num.proofs.ShortDecimals.{no_spaces}
+use Rattle.std.proofs.Common.{[]}
 use Rattle.ofit_num.proofs.decimal.plain.plain_of.Goals as goal
 
 pub returns : goal.returns
 returns c =
-    let sign = c.after_sign-negative.ensures.sign in
-    let point = c.fraction_of.ensures.point in
-    let whole = c.digits_of.result.0.now in
-    let fraction = c.fraction_of.result.0.now in
-    let rest = c.fraction_of.result.1.now in (
-      spelled_after 0 (whole ++ fraction),
-      length fraction,
+    let sign = c.after_sign-negative.ensures.sign in (
+      c.in_ok-spelled.spelled.number,
+      c.in_ok-spelled.spelled.behind,
       record {
         spaces = [];
         sign = sign.0;
@@ -19,20 +13,7 @@ returns c =
         spells = sign.2;
         are_spaces = tt;
         is_sign = sign.1;
-        is_number = record {
-          whole = whole;
-          point = point.0;
-          fraction = fraction;
-          rest = rest;
-          spells = c.digits_of.ensures.whole ∙ ap (λ (t : List ℕ). whole ++ t) point.2;
-          are_whole = c.digits_of.ensures.digits;
-          is_point = point.1;
-          are_fraction = c.fraction_of.ensures.digits;
-          some = omega (arith, length-append whole fraction, c.if-count-eq0.false);
-          is_end = inl (no_spaces rest (omega (arith, c.if-rest-gt0.false)), refl);
-          digits = refl;
-          behind = refl;
-        };
+        is_number = c.in_ok-spelled.ensures.spells;
       },
-      c.units.ensures.scaled,
+      c.in_ok-size.ensures,
     )

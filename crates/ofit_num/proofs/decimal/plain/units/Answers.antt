@@ -1,33 +1,19 @@
-use Rattle.std.proofs.Common.{◌-◌, ◌*◌, ◌++◌, ◌∙◌, ℕ, ap, arith, length, pos}
-use Rattle.ofit_num.specs.NumberText.{IsDigit, spelled_after}
-use Rattle.ofit_num.proofs.Runs.{all_back}
-use Rattle.ofit_num.proofs.Scaled.{once}
-use Rattle.ofit_num.proofs.ShortDecimals.{digits_together, whole_small, all_spelled, raised_small}
+use Rattle.std.proofs.Common.{◌≡◌, ◌*◌, ◌^◌, ◌∙◌, ℕ, ap, pos, arith}
+use Rattle.ofit_num.proofs.ShortDecimals.{zeros_fit, zeros_so_far, one_more_zero}
 use Rattle.ofit_num.proofs.decimal.plain.units.Goals as goal
 
-pub short-requires-clause-small : goal.short-requires-clause-small
-short-requires-clause-small c = whole_small c.args.whole.now c.args.fraction.now c.requires.digits c.requires.few
+pub overflow_mul-size : goal.overflow_mul-size
+overflow_mul-size c = omega (arith, zeros_so_far c.loop.size c.args.spelled.number c.args.spelled.behind c.loop.counter c.args.places c.loop.invariant c.loop-test.true (zeros_fit c.args.spelled.number c.args.places c.requires.number c.requires.places))
 
-pub short-number-requires-clause-digits : goal.short-number-requires-clause-digits
-short-number-requires-clause-digits c = all_back IsDigit c.args.whole.now c.args.fraction.now c.requires.digits
-
-pub short-number-requires-clause-small : goal.short-number-requires-clause-small
-short-number-requires-clause-small c = omega (arith, all_spelled c.args.whole.now c.args.fraction.now c.short.result c.short.ensures, digits_together c.args.whole.now c.args.fraction.now c.requires.digits c.requires.few)
-
-pub overflow_mul-result : goal.overflow_mul-result
-overflow_mul-result c =
-    let number = c.short-number.ensures ∙ all_spelled c.args.whole.now c.args.fraction.now c.short.result c.short.ensures in
-    omega (arith, raised_small c.short-number.result c.ten_to.result (c.args.places - length c.args.fraction.now) (omega (arith, number, digits_together c.args.whole.now c.args.fraction.now c.requires.digits c.requires.few)) c.ten_to.ensures (omega (arith, c.requires.places)))
+pub loop-preserved : goal.loop-preserved
+loop-preserved c = one_more_zero c.loop.size c.args.spelled.number c.args.spelled.behind c.loop.counter c.loop.invariant
 
 pub returns : goal.returns
 returns c =
-    let up = c.args.places - length c.args.fraction.now in
-    let number = c.short-number.ensures ∙ all_spelled c.args.whole.now c.args.fraction.now c.short.result c.short.ensures in
+    let last : c.loop.counter ≡ c.args.places = omega (arith, c.loop.auto.counter-end, c.loop-test.false, c.if-spelled-places.false) in
     record {
-      scaled = record {
-        up = up;
-        down = 0;
-        shift = ap pos (omega (arith, c.requires.fine));
-        equal = once _ ∙ ap (λ (t : ℕ). t * c.ten_to.result) number ∙ ap (λ (t : ℕ). spelled_after 0 (c.args.whole.now ++ c.args.fraction.now) * t) c.ten_to.ensures;
-      };
+      up = c.args.places;
+      down = c.args.spelled.behind;
+      shift = ap pos (omega arith);
+      equal = c.loop.invariant ∙ ap (λ (t : ℕ). c.args.spelled.number * 10 ^ t) last;
     }

@@ -4,7 +4,8 @@ use Rattle.std.specs.Int.{w128}
 use Rattle.std.specs.Int.RustNames.{unsigned_abs, FitsSigned}
 use mir.Val.{to_z, of_z}
 use Rattle.std.specs.Prelude.{ℕ, pos, ◌≤ℤ◌}
-use Rattle.ofit_num.specs.Reduced.{Reduces, signed_as}
+use Rattle.ofit_num.specs.Reduced.{Reduces}
+use Rattle.ofit_num.specs.Signed.{signed_as}
 use Rattle.ofit_num.proofs.LowestTerms.{reduces_sizes, size_of_signed}
 use Rattle.ofit_num.proofs.frac.Frac.make.Goals as goal
 use Rattle.ofit_num.proofs.frac.Frac.make.Goals.{then-top-gt-MOST_NUM-via-then-top-gt-MOST_NUM, then-top-gt-MOST_NUM-via-else-top-gt-MOST_NUM+then-bottom-gt-MOST_DEN}

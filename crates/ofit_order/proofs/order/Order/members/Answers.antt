@@ -3,7 +3,8 @@ use Rattle.ofit_order.specs.Rows.{rows_of, row}
 use Rattle.ofit_order.specs.Relation.{Relation}
 use Rattle.std.specs.List.{Contains}
 use Rattle.ofit_order.specs.Connection.{LeadsUp}
-use Rattle.ofit_order.specs.Component.{HasComponent, AreMembers}
+use Rattle.ofit_order.specs.Component.{AreMembers}
+use Rattle.ofit_order.specs.Numbers.{HasComponent}
 use Rattle.ofit_order.proofs.Linking.{length-rows_of, row_read}
 use Rattle.ofit_order.proofs.Uniqueness.{HasComponent-below, members_along}
 use Rattle.ofit_order.proofs.order.Order.members.Goals as goal

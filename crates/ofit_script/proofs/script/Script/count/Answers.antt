@@ -1,5 +1,5 @@
 use Rattle.std.proofs.Common.{subst}
-use Rattle.ofit_script.specs.Lines.{IsScript}
+use Rattle.ofit_script.specs.Script.{IsScript}
 use Rattle.ofit_script.proofs.script.Script.count.Goals as goal
 
 pub returns-clause-kept : goal.returns-clause-kept

@@ -1,5 +1,5 @@
 use Rattle.std.proofs.Common.{rules, sym, subst}
-use Rattle.ofit_script.specs.Lines.{IsScript}
+use Rattle.ofit_script.specs.Script.{IsScript}
 use Rattle.ofit_script.proofs.NextRecord.{no_lines}
 use Rattle.ofit_script.proofs.script.Script.empty.Goals as goal
 

@@ -1,7 +1,7 @@
 use Rattle.std.proofs.Common.{List, length, sym, ap, subst, arith}
 use Rattle.std.proofs.lemmas.List.Elements.{All-get_or}
 use Rattle.ofit_script.specs.declared.line.Line.{Line}
-use Rattle.ofit_script.specs.Lines.{IsLineInLimits}
+use Rattle.ofit_script.specs.Script.{IsLineInLimits}
 use Rattle.ofit_script.proofs.script.Script.line.Goals as goal
 
 pub returns-clause-limits : goal.returns-clause-limits

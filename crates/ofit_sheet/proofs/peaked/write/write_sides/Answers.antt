@@ -1,6 +1,7 @@
 use Rattle.std.proofs.Common.{length, arith}
 use Rattle.ofit_study.specs.Study.{names_of}
-use Rattle.ofit_sheet.specs.PeakedText.{side_records, sides_of}
+use Rattle.ofit_sheet.specs.PeakedText.{side_records}
+use Rattle.ofit_sheet.specs.Sides.{sides_of}
 use Rattle.ofit_sheet.proofs.WrittenParts.{no_text}
 use Rattle.ofit_sheet.proofs.WrittenPeaked.{one_part, all_parts}
 use Rattle.ofit_sheet.proofs.Shapes.{sides_count, side_within}

@@ -1,7 +1,8 @@
 use Rattle.std.proofs.Common.{ℕ, ℤ, List, subst, rules}
 use Rattle.std.specs.Prelude.{All}
 use Rattle.ofit_num.specs.Fraction.{Fraction}
-use Rattle.ofit_sheet.specs.Kept.{IsFractionInLimits, ArePartsOfSheet}
+use Rattle.ofit_sheet.specs.Kept.{IsFractionInLimits}
+use Rattle.ofit_sheet.specs.Made.{ArePartsOfSheet}
 use Rattle.ofit_sheet.proofs.sheet.Sheet.make.Goals as goal
 
 pub invariant_of-result : goal.invariant_of-result

@@ -2,7 +2,7 @@ use Rattle.std.proofs.Common.{◌≡◌, ◌≢◌, ℕ, List, ap, ◌∙◌, sy
 use Rattle.ofit_study.specs.declared.entry.Entry.{Entry}
 use Rattle.ofit_study.specs.Study.{Study, IsValid, names_of}
 use Rattle.ofit_study.specs.Kept.{made_of}
-use Rattle.ofit_study.specs.Adding.{observation, with_row}
+use Rattle.ofit_study.specs.Added.{observation, with_row}
 use Rattle.ofit_study.proofs.Pushing.{kept-push_new, made-push_new}
 use Rattle.ofit_study.proofs.study.Study.add_group.Goals as goal
 

@@ -2,7 +2,7 @@ use Rattle.std.proofs.Common.{◌≡◌, ℕ, List, length, ap, ◌∙◌, sym, 
 use Rattle.ofit_study.specs.declared.entry.Entry.{Entry}
 use Rattle.ofit_study.specs.Study.{Study, IsValid, names_of}
 use Rattle.ofit_study.specs.Kept.{made_of, observed, name_at}
-use Rattle.ofit_study.specs.Adding.{observation, with_row}
+use Rattle.ofit_study.specs.Added.{observation, with_row}
 use Rattle.ofit_study.proofs.Pushing.{kept-push_known}
 use Rattle.ofit_study.proofs.study.Study.add_to_group.Goals as goal
 

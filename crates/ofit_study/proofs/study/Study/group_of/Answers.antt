@@ -1,5 +1,5 @@
 use Rattle.ofit_study.specs.Study.{Observation}
-use Rattle.ofit_study.specs.Adding.{observation}
+use Rattle.ofit_study.specs.Added.{observation}
 use Rattle.ofit_study.proofs.Edits.{its_number, row_of}
 use Rattle.ofit_study.proofs.Touching.{numbered_none, numbered_one}
 use Rattle.ofit_study.proofs.study.Study.group_of.Goals as goal

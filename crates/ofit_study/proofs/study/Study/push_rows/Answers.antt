@@ -1,6 +1,6 @@
 use Rattle.std.proofs.Common.{◌≡◌, ◌+◌, ◌++◌, ◌∷◌, [], ℕ, subst, arith}
 use Rattle.ofit_study.specs.Study.{Observation}
-use Rattle.ofit_study.specs.Adding.{observation}
+use Rattle.ofit_study.specs.Added.{observation}
 use Rattle.ofit_study.specs.Splice.{rows_between}
 use Rattle.ofit_study.proofs.Splicing.{put_valid, put_parts, put_step, put_none, put_more}
 use Rattle.ofit_study.proofs.study.Study.push_rows.Goals as goal

@@ -1,6 +1,6 @@
 use Rattle.std.proofs.Common.{◌≡◌, ◌++◌, ◌∷◌, [], ◌∙◌, List, length, ap, refl, sym, append-nil, take, drop}
 use Rattle.ofit_study.specs.Study.{Observation}
-use Rattle.ofit_study.specs.Adding.{observation}
+use Rattle.ofit_study.specs.Added.{observation}
 use Rattle.ofit_study.specs.Splice.{rows_between}
 use Rattle.ofit_study.proofs.Splicing.{bare, bare_known, bare_more, bare_valid, with_first, with_second, with_third}
 use Rattle.ofit_study.proofs.study.Study.with_row_at.Goals as goal
