@@ -20,7 +20,7 @@ impl Model for Script {
     ghost use Rattle.std.specs.Prelude.{◌≡◌, List};
     ghost use Rattle.ofit_script.specs.declared.line.Line.{Line as Stated};
     ghost use Rattle.ofit_script.specs.Lines.{print_count};
-    ghost use Rattle.ofit_script.specs.Script.{IsScript, IsLineInLimits, IsScript};
+    ghost use Rattle.ofit_script.specs.Script.{IsScript};
 
     ghost Value = { List Stated };
 
@@ -34,6 +34,7 @@ impl Script {
     ghost use Rattle.csv.specs.Records.{fields_of};
     ghost use Rattle.ofit_script.specs.declared.fault.ScriptFault.TheVariants.{Memory};
     ghost use Rattle.ofit_script.specs.Lines.{print_count};
+    ghost use Rattle.ofit_script.specs.Script.{IsLineInLimits, IsScript};
     ghost use Rattle.ofit_script.specs.Spelling.{IsShaped, RecordFault, Spells};
     ghost use Rattle.ofit_script.specs.Reading.{HasRoom};
 
