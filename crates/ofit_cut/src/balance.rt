@@ -33,7 +33,7 @@ fn opened(alloc: Global, spans: &[Span]) -> Result<Vec<Span>, AllocError>
 ///
 /// Amounts are from 0 to 2·10^33. Where there are flows, peeling leaves and one maximum flow along the pairs
 /// that are left find them; for a forest peeling does, in linear time. A set takes a second maximum flow, over
-/// all pairs, and a lower set as many again.
+/// all pairs, and where that shows a lower set, up to two more tell whether there is an upper one.
 pub fn balance_flow(
     alloc: Global,
     pairs: &[(u32, u32)],

@@ -3,7 +3,7 @@ use Rattle.std.specs.Prelude.{ℕ, ◌≤◌, List, count_by, nat_lt}
 use Rattle.ofit_num.specs.declared.row.Row.{Row}
 use Rattle.ofit_num.specs.RowLimits.{AreWithinLimits}
 
--- the last number of an observation; the two above it are kept for rows that are no observations
+-- the greatest number of a plain row; the two above it are of rows that no study has
 abbrev pub last_plain : ℕ
 last_plain = 4294967293
 

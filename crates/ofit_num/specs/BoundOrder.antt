@@ -1,4 +1,4 @@
--- Which bounds leave a value.
+-- Bounds in order.
 use Rattle.std.specs.Prelude.{Option, Some, None, ℤ, ◌≤ℤ◌, ⊤}
 
 -- the lower bound is at most the upper one, where both stand

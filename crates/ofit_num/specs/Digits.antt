@@ -1,4 +1,4 @@
--- Digits of a text, as its readers and writers come upon them.
+-- Where a run of bytes ends, and digits that spell a number.
 use Rattle.std.specs.Prelude.{◌≡◌, ℕ, List, [], ◌∷◌, length, ⊤}
 use Rattle.std.specs.List.{AllByRecursion}
 use Rattle.ofit_num.specs.NumberText.{IsDigit, spelled_after}

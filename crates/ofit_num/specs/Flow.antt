@@ -1,4 +1,4 @@
--- Flows along pairs of the order, and what they certify.
+-- Flows along pairs of the order, and their balances.
 use Rattle.std.specs.Prelude.{ℕ, cond, nat_eq, List, [], ◌∷◌, ℤ, pos, ◌+ℤ◌, ◌-ℤ◌}
 
 -- a flow along the pair (low, high)

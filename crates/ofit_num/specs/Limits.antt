@@ -1,4 +1,4 @@
--- Values and weights of rows, each by itself and together.
+-- The rows of groups together, and their weight.
 use Rattle.std.specs.Prelude.{ℕ, List, [], ◌∷◌, ◌++◌, sum_by}
 use Rattle.ofit_num.specs.declared.row.Row.{Row}
 

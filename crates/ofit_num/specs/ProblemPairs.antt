@@ -1,4 +1,4 @@
--- What the pairs of a problem keep.
+-- What is asked of the pairs of a problem.
 use Rattle.std.specs.Prelude.{◌≡◌, ◌<◌, All, AllPairs}
 use Rattle.ofit_num.specs.Problem.{Problem}
 

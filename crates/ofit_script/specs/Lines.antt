@@ -1,4 +1,4 @@
--- The lines of a script: at most so many, and at most so many that print a report or a sheet.
+-- The lines of a script that print a report or a sheet.
 use Rattle.std.specs.Prelude.{ℕ, Bool, true, false, List, count_by}
 use Rattle.ofit_script.specs.declared.line.Line.{Line}
 use Rattle.ofit_script.specs.declared.line.Line.TheVariants.{Change, Report, Sheet}

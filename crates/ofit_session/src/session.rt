@@ -89,7 +89,8 @@ impl Session {
     /// tally counts each; all other values stay, by the names of their groups. After a fault the session
     /// is as before. Another value or weight of a row takes time linear in the rows of its group, and that
     /// of the fit of its component; a row less or more a copy of the list of rows besides, where its group
-    /// has a row before it; each other edit time linear in the study, and that of its order.
+    /// has a row before it; each other edit takes that of
+    /// [`Study::edited_anew`], and of the order of the study.
     ///
     /// # Errors
     ///

@@ -1,4 +1,4 @@
--- A peaked sheet: a value for each group, a peak, a cost, and a side of all the first groups and of all the last ones, each step of it with an amount. In the sheet of a fit the values rise up to the peak and fall from it, the sides are chain fits, and the amounts certify them; a sheet that is read has the shape alone.
+-- A peaked sheet: a value for each group, a peak, a cost, and a side for each number of first groups and of last ones, each step of it with an amount. In the sheet of a fit the values rise up to the peak and fall from it, the sides are chain fits, and the amounts certify them; a sheet that is read has the shape and the limits alone.
 use Rattle.std.specs.Prelude.{◌≡◌, ◌<◌, ◌≤◌, ◌-◌, ℕ, ℤ, pos, ◌≤ℤ◌, List, [], length, Option, MatchOption, IfSome, All, slice_get, slice_index_or, unsigned_abs, None}
 use Rattle.ofit_num.specs.declared.limits.TheConstants.{MOST_UNITS}
 pub use Rattle.ofit_sheet.specs.declared.peaked.limits.TheConstants.{MOST_COST as most_cost}

@@ -1,4 +1,4 @@
--- A study with a row more after its others, and why a row isn't taken.
+-- When a study takes a row more, and why it doesn't.
 use Rattle.std.specs.Prelude.{◌≢◌, ◌≤◌, ◌<◌, ◌+◌, ◌⊎◌, ℕ, List, length, All, Contains}
 use Rattle.ofit_num.specs.declared.limits.TheConstants.{MOST_WEIGHT}
 use Rattle.ofit_study.specs.declared.fault.AddFault.{AddFault}

@@ -34,7 +34,7 @@ abbrev pub AreOf : ℕ → ℕ → Entries → Type 0
 AreOf rows groups (At index entry) = (index < rows) × (entry.place < groups)
 AreOf rows groups (Whole entries) = All (λ e. e.place < groups) entries
 
--- the change is one of this study: each group keeps its name and its place, and one alone gets other rows
+-- the change is one of this study: each group keeps its name and its place, and at most one gets other rows
 pub record IsChangeOf (s : Study) (c : Change) : Type 0 where
   pub of : AreOf (length s.rows) (length (names_of s)) c.entries
   pub place : c.place < length (names_of s)
@@ -57,7 +57,7 @@ pub record HasBefore (s : Study) (group : List ℕ) (number : ℕ) : Type 0 wher
   pub of : row.group ≡ group
   pub before : row.number < number
 
--- the edit changes one row, and not the first one of a group
+-- the edit gives a row another value or weight, or takes away or adds one that isn't the first of its group
 abbrev pub KeepsFirstRows : Study → Edit → Type 0
 KeepsFirstRows s (Add group value weight) = (number : ℕ) × IsFreeNumber s.rows number × HasBefore s group number
 KeepsFirstRows s (Remove number) = (at : HasRow s number) × HasBefore s at.row.group number

@@ -13,7 +13,7 @@ pub record IsRowAt (s : Study) (index number : ℕ) : Type 0 where
   pub inside : index < length s.rows
   pub is : (d : Observation) → (slice_index_or s.rows index d).number ≡ number
 
--- the numbers of the entries rise, from 1 on
+-- the numbers of the entries rise, and each is at least 1
 pub record RiseFromOne (entries : List Entry) : Type 0 where
   pub least : All (λ e. 1 ≤ e.row.number) entries
   pub rising : AllPairs (λ e f. e.row.number < f.row.number) entries

@@ -5,6 +5,7 @@ use Rattle.ofit_study.specs.declared.study.change.OtherEntries.{OtherEntries}
 use Rattle.ofit_study.specs.declared.study.change.OtherEntries.TheVariants.{One, All}
 use Rattle.ofit_study.specs.Change.{Entries, At, Whole}
 
+-- the entries that a change holds
 abbrev pub told : OtherEntries → Entries
 told (One index entry) = At index entry
 told (All entries) = Whole entries.items
@@ -19,7 +20,7 @@ abbrev pub entries_with : List Entry → Entries → List Entry
 entries_with entries (At index entry) = slice_set entries index entry
 entries_with entries (Whole others) = others
 
--- and those that were there
+-- what the change holds after it was exchanged with these entries
 abbrev pub entries_left : List Entry → Entries → Entries
 entries_left entries (At index entry) = At index (slice_index_or entries index entry)
 entries_left entries (Whole others) = Whole entries

@@ -98,10 +98,10 @@ impl Study {
         self.other_row(index, Row { weight, ..row })
     }
 
-    /// The change of one row that an edit is, where no group begins with this row: another value or
-    /// weight, a row less in a group with one before it, or a row more in such a group. None for each
-    /// other edit that the study takes. For a value or a weight O(log n) time for n rows, and time linear
-    /// in the rows of the group; for a row less or more a copy of the list of rows.
+    /// The change of one row that an edit is: another value or weight of any row, or a row less or more
+    /// that isn't the first of its group. For these there is one; None is answered for other edits that
+    /// the study takes, alone. For a value or a weight O(log n) time for n rows, and time linear in the
+    /// rows of the group; for a row less or more a copy of the list of rows.
     ///
     /// # Errors
     ///

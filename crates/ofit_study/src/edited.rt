@@ -131,7 +131,7 @@ impl Study {
         }
     }
 
-    /// The study after an edit; this study stays. Time linear in the rows and pairs, and for an edit that
+    /// The study after an edit; this study stays. Expected time linear in the rows and pairs, and for an edit that
     /// isn't a [`Study::row_change`] O(m log m) comparisons of names for m pairs.
     ///
     /// # Errors

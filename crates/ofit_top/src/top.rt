@@ -93,15 +93,15 @@ pub fn run<F: Folder, O: Sink, E: Sink>(
 ) -> Answer
     requires room { tally.old.fits ≤ 2 ^ 63 }
     requires room_for_cuts { tally.old.cuts ≤ 2 ^ 63 }
-    // The output is what the words ask for: a sheet of a best fit, its report, the verdict on a sheet, what a script
-    // prints, a level table, or the summary of a made study. It is written whole; a part of it, where the output fails;
-    // or nothing, where the run ends before.
+    // The output is what the words ask for: the sheet of the least best fit or its report, the sheet of the best fit of
+    // all peaks, the verdict on a sheet, what a script prints, a level table, or the summary of a made study. It is
+    // written whole; a part of it, where the output fails; or nothing, where the run ends before.
     ensures written { Writes (texts words.now)
         (state (F.held folder.old) (F.faults folder.old) (O.written out.old) (O.faults out.old) tally.old)
         (state (F.held folder.new) (F.faults folder.new) (O.written out.new) (O.faults out.new) tally.new)
         result }
-    // Each fit of a component is counted: of all components of the study, and in a session of those that an edit
-    // touches. Nothing else is.
+    // Fits, reports, samples and sessions count each component of their study, and a session each that an edit touches
+    // besides. Nothing else is counted.
     ensures counted { CountsFits (texts words.now)
         (state (F.held folder.old) (F.faults folder.old) (O.written out.old) (O.faults out.old) tally.old)
         (state (F.held folder.new) (F.faults folder.new) (O.written out.new) (O.faults out.new) tally.new)

@@ -6,7 +6,7 @@ ghost use Rattle.ofit_num.specs.DecimalText.{IsDecimal, IsScaled, IsUnsigned};
 use crate::decimal::after_sign;
 
 /// The most bytes of a plain decimal: those of a number of 1,000,000,000 units at most, at any places. A number
-/// of so many digits fits, and so it does with as many zeros behind it as places.
+/// of so many digits fits into 64 bits, and so it does with as many zeros behind it as places.
 const MOST_BYTES: usize = 12;
 
 /// A number of units with or without a minus sign.
@@ -49,7 +49,7 @@ fn digits_from(text: &[u8], start: usize, number: u64) -> (u64, usize)
     (longer, text.len())
 }
 
-/// The number of digits with at most one point behind the first, where the text is nothing else.
+/// The number that digits spell, with at most one point behind the first, where the text is nothing else.
 fn spelled_of(text: &[u8]) -> Option<Spelled>
     requires { length text.now ≤ 12 }
     ensures spells { IfSome result (λ s. IsUnsigned text.now s.number s.behind (pos 0)) }
@@ -95,7 +95,7 @@ fn units(spelled: Spelled, places: u32) -> Option<u64>
 }
 
 /// The number of units of 10^(-places) of a short decimal without spaces or a power of ten. None where the
-/// text is no such one.
+/// text is no such one, has no digit before the point, or has more decimals than places.
 pub(super) fn plain_of(text: &[u8], places: u32) -> Option<Plain>
     requires { places ≤ 6 }
     ensures { IfSome result (λ p. (m f : ℕ) × IsDecimal text.now p.negative m f (pos 0) × IsScaled m f (pos 0) places p.size) }
