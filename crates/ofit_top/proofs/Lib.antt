@@ -6,6 +6,5 @@ pub mod Counted
 pub mod SessionCounts
 pub mod Endings
 pub mod Accepted
-pub mod OnErr
 pub mod Few
 pub mod Verified

@@ -3,7 +3,7 @@ use Rattle.std.specs.Prelude.{IfOk}
 use Rattle.ofit_input.specs.declared.ready.Ready.{Ready}
 use Rattle.ofit_top.specs.Job.{JobGives, HasFits}
 use Rattle.ofit_top.proofs.Counted.{none_counts}
-use Rattle.ofit_top.proofs.OnErr.{on_ok}
+use Rattle.ofit_sample.proofs.Fitted.{on_ok}
 use Rattle.ofit_top.proofs.job.do_job.Goals as goal
 
 pub returns-in-Verify-clause-gives : goal.returns-in-Verify-clause-gives

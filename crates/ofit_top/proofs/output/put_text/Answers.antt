@@ -1,6 +1,6 @@
 use Rattle.std.proofs.Common.{◌≡◌, ◌++◌, List, ℕ, ap, ap₂, ◌∙◌, sym, append_assoc, take-append-drop}
 use Rattle.ofit_outside.specs.Sink.{with_more}
-use Rattle.ofit_top.proofs.OnErr.{on_err}
+use Rattle.ofit_sample.proofs.Fitted.{on_err}
 use Rattle.ofit_top.proofs.Pieces.{with_more-append, gains_more}
 use Rattle.ofit_top.proofs.output.put_text.Goals as goal
 

@@ -2,7 +2,7 @@ use Rattle.ofit_input.specs.declared.ready.Ready.TheVariants.{Report}
 use Rattle.ofit_study.specs.Study.{problem_stated}
 use Rattle.ofit_fit.proofs.Fitted.{one_count}
 use Rattle.ofit_top.proofs.Counted.{job_counts, whole_within, job_within}
-use Rattle.ofit_top.proofs.OnErr.{on_err}
+use Rattle.ofit_sample.proofs.Fitted.{on_err}
 use Rattle.ofit_top.proofs.report.print_report.Goals as goal
 
 pub returns-in_err-values-clause-within : goal.returns-in_err-values-clause-within

@@ -1,6 +1,6 @@
 use Rattle.ofit_input.specs.declared.ready.Ready.TheVariants.{Sample}
 use Rattle.ofit_top.proofs.Counted.{job_within}
-use Rattle.ofit_top.proofs.OnErr.{on_err}
+use Rattle.ofit_sample.proofs.Fitted.{on_err}
 use Rattle.ofit_top.proofs.sample.print_sample.Goals as goal
 
 pub returns-in_err-text-clause-within : goal.returns-in_err-text-clause-within

@@ -2,7 +2,7 @@ use Rattle.std.proofs.Common.{◌≡◌, ℕ, List, sym, subst}
 use Rattle.ofit_study.specs.Study.{Study}
 use Rattle.ofit_script.specs.ScriptGives.{ScriptFits}
 use Rattle.ofit_top.proofs.SessionCounts.{room, room_for_cuts, start_within, lines_within, lines_counted}
-use Rattle.ofit_top.proofs.OnErr.{on_err}
+use Rattle.ofit_sample.proofs.Fitted.{on_err}
 use Rattle.ofit_top.proofs.session.print_session.Goals as goal
 
 pub returns-in_err-session-clause-within : goal.returns-in_err-session-clause-within
