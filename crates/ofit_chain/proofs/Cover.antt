@@ -13,7 +13,7 @@ use Rattle.ofit_num.specs.Below.{Below}
 use Rattle.ofit_num.specs.Trial.{trial_of}
 use Rattle.ofit_num.specs.Fit.{LeastBestValues}
 use Rattle.ofit_num.specs.Settled.{IsSettled, IsLeastSettled}
-use Rattle.ofit_num.specs.Limits.{all_rows}
+use Rattle.ofit_num.specs.RowTotals.{all_rows}
 use Rattle.ofit_num.specs.Law.{greatest_at, HasFallingSpans}
 use Rattle.ofit_num.specs.Sets.{set_sum}
 use Rattle.ofit_num.specs.Steep.{IsSteep}

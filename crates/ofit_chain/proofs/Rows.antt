@@ -8,7 +8,7 @@ use Rattle.ofit_num.specs.declared.row.Row.{Row}
 use Rattle.ofit_num.specs.Groups.{RowLists}
 use Rattle.ofit_num.specs.Meaning.{Meaning}
 use Rattle.ofit_num.specs.Fraction.{Fraction}
-use Rattle.ofit_num.specs.Limits.{all_rows}
+use Rattle.ofit_num.specs.RowTotals.{all_rows}
 use Rattle.ofit_num.specs.Law.{greatest_at}
 use Rattle.ofit_num.specs.Sets.{set_sum}
 use Rattle.ofit_num.specs.Block.{IsPooled, IsCost}

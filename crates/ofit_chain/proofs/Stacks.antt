@@ -9,7 +9,7 @@ use Rattle.ofit_num.specs.Groups.{RowLists}
 use Rattle.ofit_num.specs.Meaning.{Meaning}
 use Rattle.ofit_num.specs.Fraction.{AtMost}
 use Rattle.ofit_num.specs.Below.{Below}
-use Rattle.ofit_num.specs.Limits.{total_weight, all_rows}
+use Rattle.ofit_num.specs.RowTotals.{total_weight, all_rows}
 use Rattle.ofit_num.specs.RowLimits.{AreWithinLimits}
 use Rattle.ofit_num.proofs.RowLists.{within-front, within-back}
 use Rattle.ofit_loss.specs.Rows.{AreFittable}

@@ -9,7 +9,7 @@ use Rattle.ofit_num.specs.Meaning.{Meaning}
 use Rattle.ofit_num.specs.Fraction.{Fraction}
 use Rattle.ofit_num.specs.Trial.{scale_of, trial_of}
 use Rattle.ofit_num.specs.Fit.{Obeys, LeastBestValues}
-use Rattle.ofit_num.specs.Limits.{all_rows}
+use Rattle.ofit_num.specs.RowTotals.{all_rows}
 use Rattle.ofit_num.specs.Law.{HasFallingSpans}
 use Rattle.ofit_num.specs.Settled.{IsSettled, IsLeastSettled, IsFitted, LosesByLowering}
 use Rattle.ofit_num.proofs.Trials.{scale_above, value_of-den}

@@ -2,7 +2,7 @@
 use Rattle.std.specs.Prelude.{◌<◌, Bool, List, [], ◌∷◌, ◌++◌, length, All}
 use Rattle.ofit_num.specs.declared.row.Row.{Row}
 use Rattle.ofit_num.specs.Groups.{RowLists}
-use Rattle.ofit_num.specs.Limits.{all_rows}
+use Rattle.ofit_num.specs.RowTotals.{all_rows}
 use Rattle.ofit_num.specs.Meaning.{Meaning}
 use Rattle.ofit_loss.specs.Rows.{AreFittable}
 use Rattle.ofit_chain.specs.declared.block.Block.{Block}

@@ -1,5 +1,5 @@
 ghost use Rattle.std.specs.Prelude.{◌≡◌, ◌<◌, All, length, IfOk, vec_len, false};
-ghost use Rattle.ofit_num.specs.Limits.{all_rows};
+ghost use Rattle.ofit_num.specs.RowTotals.{all_rows};
 ghost use Rattle.ofit_num.specs.Trial.{trial_of};
 ghost use Rattle.ofit_num.specs.Fit.{LeastBestValues};
 ghost use Rattle.ofit_num.specs.Settled.{IsSettled, IsLeastSettled};

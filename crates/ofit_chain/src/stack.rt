@@ -2,7 +2,7 @@ ghost use Rattle.std.specs.Prelude.{◌≡◌, List, length, IfOk, OnOk, OnErr, 
 ghost use Rattle.ofit_num.specs.Fraction.{AtMost};
 ghost use Rattle.ofit_num.specs.Below.{Below};
 ghost use Rattle.ofit_num.specs.Groups.{RowLists};
-ghost use Rattle.ofit_num.specs.Limits.{all_rows};
+ghost use Rattle.ofit_num.specs.RowTotals.{all_rows};
 ghost use Rattle.ofit_num.specs.Trial.{trial_of};
 ghost use Rattle.ofit_num.specs.Fit.{LeastBestValues};
 ghost use Rattle.ofit_num.specs.Settled.{IsSettled, IsLeastSettled};

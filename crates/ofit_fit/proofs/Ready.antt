@@ -14,7 +14,7 @@ use Rattle.ofit_num.specs.Problem.{Problem}
 use Rattle.ofit_num.specs.Unbounded.{no_bounds}
 use Rattle.ofit_num.specs.Meaning.{Meaning}
 use Rattle.ofit_num.specs.Law.{HasScaling}
-use Rattle.ofit_num.specs.Limits.{all_rows}
+use Rattle.ofit_num.specs.RowTotals.{all_rows}
 use Rattle.ofit_num.proofs.Pigeonhole.{distinct_few}
 use Rattle.ofit_num.proofs.RowLists.{all_front, all_back}
 use Rattle.ofit_order.specs.Relation.{Relation, ComesBefore}

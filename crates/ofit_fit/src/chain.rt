@@ -1,6 +1,6 @@
 ghost use Rattle.std.specs.Prelude.{◌≡◌, ◌<◌, ◌≤◌, ◌^◌, ℕ, List, IfOk, length, map, slice_index, vec_len, Option, Some, None};
 ghost use Rattle.std.specs.List.{All};
-ghost use Rattle.ofit_num.specs.Limits.{all_rows};
+ghost use Rattle.ofit_num.specs.RowTotals.{all_rows};
 ghost use Rattle.ofit_num.specs.Unbounded.{without_bounds};
 ghost use Rattle.ofit_num.specs.Fit.{LeastBestValues};
 ghost use Rattle.ofit_loss.specs.Rows.{AreFittable};

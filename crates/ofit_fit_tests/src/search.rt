@@ -1,7 +1,7 @@
 //! Chains of a fixed generator, against a search through all values of rows for the median, and the
 //! greatest of least means of runs for squares.
 ghost use Rattle.std.specs.Prelude.{◌≡◌, ◌<◌, ◌≤◌, ◌-◌, ◌^◌, All, length, IfOk, unsigned_abs};
-ghost use Rattle.ofit_num.specs.Limits.{all_rows};
+ghost use Rattle.ofit_num.specs.RowTotals.{all_rows};
 ghost use Rattle.ofit_loss.specs.Rows.{AreFittable};
 
 use crate::chain::are_whole;

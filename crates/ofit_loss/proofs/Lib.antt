@@ -12,3 +12,4 @@ pub mod QuantileLeast
 pub mod MedianRow
 pub mod MaxMin
 pub mod Plain
+pub mod Joined

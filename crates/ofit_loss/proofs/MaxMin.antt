@@ -5,7 +5,7 @@ use Rattle.std.specs.Prelude.{ℤ, pos, ◌+ℤ◌, ◌-ℤ◌, ◌*ℤ◌, ◌�
 use Rattle.ofit_num.specs.Clipped.{HasConstantBounds}
 use Rattle.ofit_num.specs.Fit.{BestValues, sum_below}
 use Rattle.ofit_num.specs.Fraction.{Fraction, AtMost}
-use Rattle.ofit_num.specs.Limits.{total_weight}
+use Rattle.ofit_num.specs.RowTotals.{total_weight}
 use Rattle.ofit_num.specs.Loss.{squares}
 use Rattle.ofit_num.specs.MaxMin.{IsUpper, IsLower, common, mean_of_common, MaxMin}
 use Rattle.ofit_num.specs.Problem.{Problem, Bounds}

@@ -11,7 +11,7 @@ use Rattle.std.specs.declared.cmp.Ordering.{Ordering}
 use Rattle.std.specs.declared.cmp.Ordering.TheVariants.{Less, Equal, Greater}
 use Rattle.std.specs.declared.cmp.Reverse.{Reverse}
 use Rattle.ofit_num.specs.declared.row.Row.{Row}
-use Rattle.ofit_num.specs.Limits.{total_weight}
+use Rattle.ofit_num.specs.RowTotals.{total_weight}
 use Rattle.ofit_num.specs.RowLimits.{IsRowWithinLimits}
 use Rattle.ofit_loss.specs.declared.entry.Entry.{Entry}
 use Rattle.ofit_loss.specs.declared.quantile.QuantilePool.{QuantilePool}

@@ -6,7 +6,7 @@ use Rattle.std.specs.Prelude.{ℤ, pos, true, max, ◌+ℤ◌, ◌-ℤ◌, ◌*�
 use Rattle.ofit_num.specs.declared.row.Row.{Row}
 use Rattle.ofit_num.specs.Fraction.{Fraction}
 use Rattle.ofit_num.specs.Below.{Below}
-use Rattle.ofit_num.specs.Limits.{total_weight}
+use Rattle.ofit_num.specs.RowTotals.{total_weight}
 use Rattle.ofit_num.specs.RowLimits.{IsRowWithinLimits, AreWithinLimits}
 use Rattle.ofit_num.specs.Loss.{residual, squared_end, squares}
 use Rattle.ofit_num.proofs.Order.{mul_pos, zero_mul_ℤ, swap_ℤ, size_sub}

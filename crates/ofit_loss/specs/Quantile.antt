@@ -4,7 +4,7 @@ use Rattle.std.specs.BinaryHeap.{heap_items, IsHeap}
 use Rattle.std.specs.Ordering.{int_cmp, is_lt, is_gt}
 use Rattle.std.specs.declared.cmp.Reverse.{Reverse}
 use Rattle.ofit_num.specs.declared.row.Row.{Row}
-use Rattle.ofit_num.specs.Limits.{total_weight}
+use Rattle.ofit_num.specs.RowTotals.{total_weight}
 use Rattle.ofit_loss.specs.declared.entry.Entry.{Entry}
 use Rattle.ofit_loss.specs.declared.quantile.QuantilePool.{QuantilePool}
 use Rattle.ofit_loss.specs.Entry.{entry_cmp, entry_of}

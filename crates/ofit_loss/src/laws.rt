@@ -7,7 +7,7 @@ ghost use Rattle.ofit_num.specs.Fit.{BestValues};
 ghost use Rattle.ofit_num.specs.MaxMin.{MaxMin};
 ghost use Rattle.ofit_num.specs.Law.{HasSupport, HasFallingSpans, HasScaling};
 ghost use Rattle.ofit_num.specs.Loss.{squares, median};
-ghost use Rattle.ofit_num.specs.Limits.{total_weight};
+ghost use Rattle.ofit_num.specs.RowTotals.{total_weight};
 ghost use Rattle.ofit_loss.specs.Squares.{weighted_sum};
 ghost use Rattle.ofit_loss.specs.Median.{weight_above, weight_at, weight_below};
 ghost use Rattle.ofit_loss.specs.Rows.{AreFittable};

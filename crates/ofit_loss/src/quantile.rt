@@ -1,7 +1,7 @@
 ghost use Rattle.std.specs.Prelude.{◌≡◌, ℕ, ◌+◌, ◌*◌, ◌<◌, ◌≤◌, ◌≤ℤ◌, ◌↔◌, List, All, sum_by, ◌++◌, IsTrue, IfOk, OnOk, false, unsigned_abs};
 ghost use Rattle.std.specs.BinaryHeap.{heap_items, heap_len};
 ghost use Rattle.ofit_num.specs.declared.row.Row.{Row};
-ghost use Rattle.ofit_num.specs.Limits.{total_weight};
+ghost use Rattle.ofit_num.specs.RowTotals.{total_weight};
 ghost use Rattle.ofit_num.specs.RowLimits.{AreWithinLimits};
 ghost use Rattle.ofit_loss.specs.declared.entry.Entry.{Entry};
 ghost use Rattle.ofit_loss.specs.Pool.{CanJoin};

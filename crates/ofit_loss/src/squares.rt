@@ -1,7 +1,7 @@
 ghost use Rattle.std.specs.Prelude.{◌≡◌, ◌≤◌, ◌<◌, ◌+◌, ◌*◌, ◌^◌, ℤ, pos, ◌*ℤ◌, ◌-ℤ◌, unsigned_abs, true, refl};
 ghost use Rattle.ofit_num.specs.declared.limits.TheConstants.{MOST_UNITS, MOST_WEIGHT};
 ghost use Rattle.ofit_num.specs.Loss.{squares};
-ghost use Rattle.ofit_num.specs.Limits.{total_weight};
+ghost use Rattle.ofit_num.specs.RowTotals.{total_weight};
 ghost use Rattle.ofit_num.specs.RowLimits.{AreWithinLimits};
 ghost use Rattle.ofit_loss.specs.Squares.{weighted_sum};
 ghost use Rattle.ofit_loss.specs.TableLaws.{squares-laws};

@@ -6,7 +6,7 @@ use Rattle.std.proofs.lemmas.List.Sums.{sum_by-append}
 use Rattle.std.proofs.lemmas.Option.{same_Some, slice_get-get_or}
 use Rattle.std.specs.Prelude.{All, slice_get, Some}
 use Rattle.ofit_num.specs.declared.row.Row.{Row}
-use Rattle.ofit_num.specs.Limits.{total_weight, all_rows}
+use Rattle.ofit_num.specs.RowTotals.{total_weight, all_rows}
 use Rattle.ofit_num.specs.RowLimits.{IsRowWithinLimits, AreWithinLimits}
 
 pub all_rows-split : (groups : List (List Row)) (k : ℕ) (rows : List Row) → slice_get groups k ≡ Some rows → all_rows groups ≡ all_rows (take k groups) ++ (rows ++ all_rows (drop (suc k) groups))

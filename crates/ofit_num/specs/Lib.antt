@@ -6,7 +6,7 @@ pub mod Groups
 pub mod Tally
 pub mod Meaning
 pub mod Loss
-pub mod Limits
+pub mod RowTotals
 pub mod RowLimits
 pub mod NumberText
 pub mod Problem

@@ -2,7 +2,7 @@
 use Rattle.std.specs.Prelude.{◌≡◌, ℕ, Bool, true, ◌&&◌, cond, All, pos, ◌*ℤ◌}
 use Rattle.ofit_num.specs.Fit.{sum_below}
 use Rattle.ofit_num.specs.Fraction.{Fraction, AtMost}
-use Rattle.ofit_num.specs.Limits.{total_weight}
+use Rattle.ofit_num.specs.RowTotals.{total_weight}
 use Rattle.ofit_num.specs.Loss.{int_row_sum}
 use Rattle.ofit_num.specs.Problem.{Problem}
 use Rattle.ofit_num.specs.Sets.{set_sum}

@@ -2,7 +2,7 @@
 use Rattle.std.specs.Prelude.{◌≤◌, List, All, unsigned_abs}
 use Rattle.ofit_num.specs.declared.limits.TheConstants.{MOST_UNITS, MOST_WEIGHT}
 use Rattle.ofit_num.specs.declared.row.Row.{Row}
-use Rattle.ofit_num.specs.Limits.{total_weight}
+use Rattle.ofit_num.specs.RowTotals.{total_weight}
 
 -- a weight is at most that of all rows by the total
 pub record IsRowWithinLimits (r : Row) : Type 0 where

@@ -109,7 +109,7 @@ impl Frac {
 }
 
 /// Tells that each value is in lowest terms, as every [`Frac`] is. Time linear in their count.
-pub fn are_lowest(values: &[Frac])
+pub fn tell_lowest(values: &[Frac])
     ensures { All IsLowest values.now }
 {
     for value in values {

@@ -17,7 +17,7 @@ mod whole;
 pub use decimal::{
     NumFault, append_decimal, decimal_texts_are_canonical, decimals_are_read_back, read_decimal,
 };
-pub use frac::{Frac, are_lowest};
+pub use frac::{Frac, tell_lowest};
 pub use groups::Groups;
 pub use laws::{
     best_is_settled, least_best_values_are_unique, signed_texts_are_canonical,

@@ -8,7 +8,7 @@ use Rattle.ofit_num.specs.Unbounded.{no_bounds}
 use Rattle.ofit_num.specs.Meaning.{Meaning}
 use Rattle.ofit_num.specs.Fraction.{Fraction}
 use Rattle.ofit_num.specs.Groups.{RowLists}
-use Rattle.ofit_num.specs.Limits.{all_rows}
+use Rattle.ofit_num.specs.RowTotals.{all_rows}
 use Rattle.ofit_num.specs.Law.{least_at, greatest_at, HasSupport, HasFallingSpans, HasScaling}
 use Rattle.ofit_num.specs.Sets.{IsUpperIn, IsSplit, IsGreatestUpper, IsSmallest}
 use Rattle.ofit_num.specs.Block.{HasCeiling}

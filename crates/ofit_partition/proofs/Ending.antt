@@ -7,7 +7,7 @@ use Rattle.ofit_num.specs.Meaning.{Meaning}
 use Rattle.ofit_num.specs.Fraction.{Fraction}
 use Rattle.ofit_num.specs.Trial.{trial_of}
 use Rattle.ofit_num.specs.Fit.{LeastBestValues}
-use Rattle.ofit_num.specs.Limits.{all_rows}
+use Rattle.ofit_num.specs.RowTotals.{all_rows}
 use Rattle.ofit_num.specs.Settled.{IsSettled, IsLeastSettled}
 use Rattle.ofit_num.specs.Level.{AreLevels}
 use Rattle.ofit_num.proofs.Levels.{levels_settled, levels_least_settled, levels_least_best}

@@ -5,7 +5,7 @@ use Rattle.ofit_num.specs.Groups.{RowLists}
 use Rattle.ofit_num.specs.Problem.{Problem}
 use Rattle.ofit_num.specs.Meaning.{Meaning}
 use Rattle.ofit_num.specs.Fraction.{Fraction}
-use Rattle.ofit_num.specs.Limits.{all_rows}
+use Rattle.ofit_num.specs.RowTotals.{all_rows}
 use Rattle.ofit_num.specs.Level.{IsLevel, HasBase, labelled, AreDivided}
 use Rattle.ofit_loss.specs.Rows.{AreFittable, IsPlain}
 use Rattle.ofit_partition.specs.declared.piece.Piece.{Piece}

@@ -1,6 +1,6 @@
 ghost use Rattle.std.specs.Prelude.{◌≡◌, ◌<◌, ℕ, List, All, Any, IfOk, length, map};
 ghost use Rattle.std.specs.List.{AllPairs, flat_map};
-ghost use Rattle.ofit_num.specs.Limits.{all_rows};
+ghost use Rattle.ofit_num.specs.RowTotals.{all_rows};
 ghost use Rattle.ofit_loss.specs.Rows.{AreFittable, IsPlain};
 ghost use Rattle.ofit_partition.specs.Piece.{partition_problem, rows_of};
 ghost use Rattle.ofit_partition.specs.Cut.{IsPooledValue};

@@ -4,7 +4,7 @@ use Rattle.std.proofs.lemmas.Int.{ints, unsigned_abs-mul}
 use Rattle.std.proofs.lemmas.List.Sums.{sum_by-cons}
 use Rattle.std.specs.Prelude.{ℤ, pos, negsuc, ◌+ℤ◌, ◌-ℤ◌, ◌*ℤ◌, ◌≤ℤ◌, unsigned_abs}
 use Rattle.ofit_num.specs.declared.row.Row.{Row}
-use Rattle.ofit_num.specs.Limits.{total_weight}
+use Rattle.ofit_num.specs.RowTotals.{total_weight}
 use Rattle.ofit_num.specs.Loss.{Factors, factor_of, residual, squares}
 use Rattle.ofit_num.proofs.Gap.{is_gap, pos-gap, gap-mul, gap-add, gap-sub, gap-same, square-nonneg}
 use Rattle.std.proofs.Math.Nat.{pow-succ'}

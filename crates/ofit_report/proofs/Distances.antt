@@ -5,7 +5,7 @@ use Rattle.std.proofs.lemmas.List.Sums.{sum_by-append}
 use Rattle.std.specs.Prelude.{unsigned_abs}
 use Rattle.ofit_num.specs.declared.row.Row.{Row}
 use Rattle.ofit_num.specs.Fraction.{Fraction}
-use Rattle.ofit_num.specs.Limits.{total_weight}
+use Rattle.ofit_num.specs.RowTotals.{total_weight}
 use Rattle.ofit_num.specs.Loss.{factor_of, residual, row_sum, median}
 use Rattle.ofit_num.proofs.RowSums.{row_sum-append, row_sum-same}
 use Rattle.ofit_num.proofs.TableScaling.{first_power}

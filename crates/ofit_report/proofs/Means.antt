@@ -12,7 +12,7 @@ use Rattle.std.specs.Prelude.{ℤ, pos, ◌+ℤ◌, ◌-ℤ◌, ◌*ℤ◌, unsi
 use Rattle.ofit_num.specs.declared.row.Row.{Row}
 use Rattle.ofit_num.specs.Fit.{BestValues}
 use Rattle.ofit_num.specs.Fraction.{Fraction, IsLowest}
-use Rattle.ofit_num.specs.Limits.{total_weight}
+use Rattle.ofit_num.specs.RowTotals.{total_weight}
 use Rattle.ofit_num.specs.Loss.{squares, residual, squared_end}
 use Rattle.ofit_num.specs.Sets.{set_sum, IsClosedUp, IsClosedDown}
 use Rattle.ofit_num.specs.Settled.{CanRise, CanFall, IsSettled}

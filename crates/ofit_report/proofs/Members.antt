@@ -10,7 +10,7 @@ use Rattle.std.specs.List.Sorted.{IsStrictlyIncreasing}
 use Rattle.std.specs.Prelude.{ℤ, pos, ◌+ℤ◌, ◌≤ℤ◌, All, nat_eq, slice_get, Some, Option, unwrap_or}
 use Rattle.ofit_num.specs.declared.row.Row.{Row}
 use Rattle.ofit_num.specs.Fit.{sum_below}
-use Rattle.ofit_num.specs.Limits.{total_weight}
+use Rattle.ofit_num.specs.RowTotals.{total_weight}
 use Rattle.ofit_num.specs.RowLimits.{IsRowWithinLimits, AreWithinLimits}
 use Rattle.ofit_num.specs.Loss.{row_sum}
 use Rattle.ofit_num.specs.Sets.{set_sum}

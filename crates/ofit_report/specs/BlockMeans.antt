@@ -3,7 +3,7 @@ use Rattle.std.specs.Prelude.{◌≡◌, ◌≤◌, ◌<◌, ◌⊎◌, ℕ, Lis
 use Rattle.ofit_num.specs.declared.limits.TheConstants.{MOST_UNITS}
 use Rattle.ofit_num.specs.declared.row.Row.{Row}
 use Rattle.ofit_num.specs.Fraction.{Fraction, IsLowest}
-use Rattle.ofit_num.specs.Limits.{total_weight}
+use Rattle.ofit_num.specs.RowTotals.{total_weight}
 use Rattle.ofit_order.specs.Component.{AreMembers}
 use Rattle.ofit_study.specs.declared.loss.LossKind.TheVariants.{Squares}
 use Rattle.ofit_study.specs.Study.{Study}

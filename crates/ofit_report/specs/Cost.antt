@@ -2,7 +2,7 @@
 use Rattle.std.specs.Prelude.{◌^◌, ℕ, List, map, slice_index, pos}
 use Rattle.ofit_num.specs.declared.row.Row.{Row}
 use Rattle.ofit_num.specs.Fraction.{Fraction}
-use Rattle.ofit_num.specs.Limits.{all_rows}
+use Rattle.ofit_num.specs.RowTotals.{all_rows}
 use Rattle.ofit_num.specs.Meaning.{Meaning}
 use Rattle.ofit_num.specs.Reduced.{Reduces}
 use Rattle.ofit_study.specs.Study.{Study, problem_stated}

@@ -4,7 +4,7 @@ use Rattle.std.specs.Fmt.{signed_decimal}
 use Rattle.ofit_num.specs.declared.row.Row.{Row}
 use Rattle.ofit_num.specs.DecimalText.{IsFixed}
 use Rattle.ofit_num.specs.Fraction.{Fraction}
-use Rattle.ofit_num.specs.Limits.{total_weight}
+use Rattle.ofit_num.specs.RowTotals.{total_weight}
 use Rattle.ofit_order.specs.Component.{IsComponentCount, AreMembers}
 use Rattle.ofit_records.specs.Written.{records_text}
 use Rattle.ofit_study.specs.declared.settings.Settings.{Settings}

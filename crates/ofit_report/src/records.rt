@@ -1,6 +1,6 @@
 ghost use Rattle.std.specs.Prelude.{◌≡◌, ◌≤◌, ◌+◌, ◌++◌, IfOk, OnOk, ℤ, pos, ◌≤ℤ◌, decimal, unsigned_abs};
 ghost use Rattle.ofit_num.specs.declared.limits.TheConstants.{MOST_WEIGHT};
-ghost use Rattle.ofit_num.specs.Limits.{total_weight};
+ghost use Rattle.ofit_num.specs.RowTotals.{total_weight};
 ghost use Rattle.ofit_records.specs.Written.{record_text};
 ghost use Rattle.ofit_report.specs.ReportText.{IsRoundedDown, group_fields, block_fields};
 

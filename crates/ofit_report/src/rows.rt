@@ -1,6 +1,6 @@
 ghost use Rattle.std.specs.Prelude.{◌≡◌, ◌≤◌, ◌<◌, ◌+◌, ◌*◌, ◌^◌, IfOk, length, pos, All, ◌+ℤ◌, ◌*ℤ◌, unsigned_abs};
 ghost use Rattle.ofit_num.specs.declared.limits.TheConstants.{MOST_UNITS, MOST_WEIGHT};
-ghost use Rattle.ofit_num.specs.Limits.{total_weight};
+ghost use Rattle.ofit_num.specs.RowTotals.{total_weight};
 ghost use Rattle.ofit_num.specs.RowLimits.{AreWithinLimits};
 ghost use Rattle.ofit_study.specs.Study.{names_of};
 ghost use Rattle.ofit_loss.specs.Squares.{weighted_sum};

@@ -16,7 +16,7 @@ use crate::summary::{write_header, write_parts, write_size, write_value};
 use ofit_cert::certify;
 use ofit_check::{Verdict, verdict_sheet};
 use ofit_fit::fit_study;
-use ofit_num::{Frac, Tally, are_lowest};
+use ofit_num::{Frac, Tally, tell_lowest};
 use ofit_records::RecordWriter;
 use ofit_report::{count_blocks, count_components};
 use ofit_sheet::Sheet;
@@ -84,6 +84,6 @@ pub fn sample_text(alloc: Global, job: &SampleJob, tally: &mut Tally) -> Result<
     let study = make_study(alloc, job)?;
     let values = fit_study(alloc, &study, tally)?;
     let fit = values.as_slice();
-    are_lowest(fit);
+    tell_lowest(fit);
     summary_text(alloc, job, &study, fit)
 }

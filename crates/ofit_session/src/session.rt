@@ -1,7 +1,7 @@
 use crate::anew::{Touch, fit_edited};
 use ofit_cert::certify;
 use ofit_fit::{fit_component, fit_study, put_values};
-use ofit_num::{Frac, Tally, are_lowest};
+use ofit_num::{Frac, Tally, tell_lowest};
 use ofit_order::Order;
 use ofit_report::write_report;
 use ofit_sheet::Sheet;
@@ -201,7 +201,7 @@ impl Session {
         ensures lowest { All IsLowest self.now.values }
     {
         let alloc = *self.values.allocator();
-        are_lowest(self.values.as_slice());
+        tell_lowest(self.values.as_slice());
         write_report(alloc, &self.study, self.values.as_slice())
     }
 

@@ -7,7 +7,7 @@ use Rattle.std.proofs.lemmas.Option.{slice_get-get_or}
 use Rattle.std.specs.Prelude.{All, slice_get, unwrap_or, Option, Some, reverse, nat_lt}
 use Rattle.ofit_num.specs.declared.row.Row.{Row}
 use Rattle.ofit_num.specs.Groups.{RowLists}
-use Rattle.ofit_num.specs.Limits.{total_weight, all_rows}
+use Rattle.ofit_num.specs.RowTotals.{total_weight, all_rows}
 use Rattle.ofit_num.specs.RowLimits.{IsRowWithinLimits}
 use Rattle.ofit_num.proofs.RowLists.{all_front, all_back, group_at}
 use Rattle.ofit_loss.specs.Rows.{AreFittable, special_count}

@@ -5,7 +5,7 @@ use Rattle.std.specs.Prelude.{ℤ, reverse}
 use Rattle.ofit_num.specs.Fit.{LeastBestValues, BestValues}
 use Rattle.ofit_num.specs.Fraction.{Fraction}
 use Rattle.ofit_num.specs.Groups.{RowLists}
-use Rattle.ofit_num.specs.Limits.{all_rows}
+use Rattle.ofit_num.specs.RowTotals.{all_rows}
 use Rattle.ofit_num.specs.Loss.{median}
 use Rattle.ofit_num.specs.Settled.{IsLeastSettled}
 use Rattle.ofit_num.specs.Trial.{trial_of}

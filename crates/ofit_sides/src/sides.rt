@@ -1,6 +1,6 @@
 ghost use Rattle.std.specs.Prelude.{◌≤◌, ◌<◌, All, IfOk, length};
 ghost use Rattle.ofit_sheet.specs.declared.peaked.limits.TheConstants.{MOST_PEAK_GROUPS};
-ghost use Rattle.ofit_num.specs.Limits.{all_rows};
+ghost use Rattle.ofit_num.specs.RowTotals.{all_rows};
 ghost use Rattle.ofit_loss.specs.Rows.{AreFittable};
 ghost use Rattle.ofit_study.specs.Study.{names_of, problem_stated};
 ghost use Rattle.ofit_chain.specs.Chain.{chain_problem};

@@ -2,7 +2,7 @@
 use Rattle.std.proofs.Common.{◌≡◌, ℕ, List, arith}
 use Rattle.std.specs.Prelude.{All, slice_get, Some}
 use Rattle.ofit_num.specs.declared.row.Row.{Row}
-use Rattle.ofit_num.specs.Limits.{all_rows}
+use Rattle.ofit_num.specs.RowTotals.{all_rows}
 use Rattle.ofit_loss.specs.Rows.{IsPlain, AreFittable}
 use Rattle.ofit_loss.proofs.Plain.{plain_upto, plain_fittable}
 use Rattle.ofit_loss.proofs.ProblemLaws.{group_fittable}

@@ -7,12 +7,13 @@ use Rattle.std.proofs.lemmas.List.Elements.{All-append, All-cons, All-drop, All-
 use Rattle.std.proofs.lemmas.List.Sums.{sum_by-append, sum_by-cons}
 use Rattle.std.proofs.lemmas.Option.{slice_get-get_or}
 use Rattle.std.specs.Prelude.{All, AllPairs, Contains, map, slice_get, Some}
+use Rattle.ofit_num.specs.declared.limits.TheConstants.{MOST_WEIGHT}
 use Rattle.ofit_num.specs.declared.row.Row.{Row}
 use Rattle.ofit_num.proofs.Sheets.{AllPairs-head}
 use Rattle.ofit_study.specs.declared.entry.Entry.{Entry}
 use Rattle.ofit_study.specs.declared.settings.Settings.{Settings}
 use Rattle.ofit_study.specs.Added.{observation}
-use Rattle.ofit_study.specs.Change.{AreOf, Entries, At, Whole, IsChangeOf, rows_with}
+use Rattle.ofit_study.specs.Change.{AreOf, Entries, At, Whole, Change, IsChangeOf, changed, rows_with}
 use Rattle.ofit_study.specs.Kept.{AreKept, made_of, name_at, observed}
 use Rattle.ofit_study.specs.Put.{PutsAt}
 use Rattle.ofit_study.specs.Splice.{IsSpliced}
@@ -66,11 +67,11 @@ module _ (settings : Settings) (names : List (List ℕ)) (entries : List Entry) 
   abbrev own : Study
   own = made_of settings names entries pairs
 
-  pub entries_count : length (map (observed names) entries) ≡ length entries
+  entries_count : length (map (observed names) entries) ≡ length entries
   entries_count = length-map entries (observed names)
 
   -- the row of an entry
-  pub row_there : (index : ℕ) (e : Entry) → index < length entries → e ≡ get_or entries index e → slice_get (map (observed names) entries) index ≡ Some (observed names e)
+  row_there : (index : ℕ) (e : Entry) → index < length entries → e ≡ get_or entries index e → slice_get (map (observed names) entries) index ≡ Some (observed names e)
   row_there index e l is =
       slice_get-get_or (map (observed names) entries) index (observed names e) (omega (arith, l, entries_count))
       ∙ ap (λ (r : Observation). Some r) (get_or-map (observed names) entries index e (observed names e) l ∙ ap (observed names) (sym is))
@@ -133,12 +134,12 @@ module _ (settings : Settings) (names : List (List ℕ)) (entries : List Entry) 
     weighs_stood : weight ≡ total_weight lower + e.row.weight + total_weight higher
     weighs_stood = kept.weight_is ∙ ap total_weight parted ∙ weighs_one lower higher stood
 
-    pub stood_inside : e.row.weight ≤ weight
+    stood_inside : e.row.weight ≤ weight
     stood_inside = omega (arith, weighs_stood)
 
     -- another row in its place
     module _ (row : Row) (number : e.row.number ≡ row.number) (valid : IsValid (record own { rows = lower ++ observation stood.group row ∷ higher })) where
-      pub other_weighs : weight - e.row.weight + row.weight ≡ total_weight (lower ++ observation stood.group row ∷ higher)
+      other_weighs : weight - e.row.weight + row.weight ≡ total_weight (lower ++ observation stood.group row ∷ higher)
       other_weighs = omega (arith, weighs_stood, weighs_one lower higher (observation stood.group row))
 
       next : suc index ≡ index + 1
@@ -150,7 +151,7 @@ module _ (settings : Settings) (names : List (List ℕ)) (entries : List Entry) 
           ∙ set_split own.rows index (observation stood.group row) (omega (arith, l, entries_count))
           ∙ ap (λ (n : ℕ). take index own.rows ++ observation stood.group row ∷ drop n own.rows) next
 
-      pub other_puts : (made : List Row) → IsSpliced (get_or groups e.place []) row.number 1 (row ∷ []) made
+      other_puts : (made : List Row) → IsSpliced (get_or groups e.place []) row.number 1 (row ∷ []) made
           → PutsAt own index (row ∷ []) (record { place = e.place; entries = At index (record { place = e.place; row = row }); rows = made; weight = weight - e.row.weight + row.weight })
       other_puts made sp = record {
         of = change_made own lower (stood ∷ []) (observation stood.group row ∷ []) higher parted e.place (place_there index e l is)
@@ -170,7 +171,7 @@ module _ (settings : Settings) (names : List (List ℕ)) (entries : List Entry) 
 
     -- no row in its place
     module _ (before : Contains (group_names lower) stood.group) (valid : IsValid (record own { rows = lower ++ higher })) where
-      pub less_puts : (made : List Row) → IsSpliced (get_or groups e.place []) e.row.number 1 [] made
+      less_puts : (made : List Row) → IsSpliced (get_or groups e.place []) e.row.number 1 [] made
           → PutsAt own index [] (record { place = e.place; entries = Whole (take index entries ++ ([] ++ drop (index + 1) entries)); rows = made; weight = weight - e.row.weight })
       less_puts made sp = record {
         of = change_made own lower (stood ∷ []) [] higher parted e.place (place_there index e l is)
@@ -192,7 +193,7 @@ module _ (settings : Settings) (names : List (List ℕ)) (entries : List Entry) 
     abbrev entry : Entry
     entry = record { place = place; row = row }
 
-    pub more_rows : map (observed (names_of own)) (take index entries ++ (entry ∷ [] ++ drop index entries)) ≡ take index own.rows ++ observation (name_at (names_of own) place) row ∷ drop index own.rows
+    more_rows : map (observed (names_of own)) (take index entries ++ (entry ∷ [] ++ drop index entries)) ≡ take index own.rows ++ observation (name_at (names_of own) place) row ∷ drop index own.rows
     more_rows =
         spliced_rows index index (entry ∷ [])
         ∙ ap (λ (n : List ℕ). take index own.rows ++ observation n row ∷ drop index own.rows) (name_there place)
@@ -206,7 +207,7 @@ module _ (settings : Settings) (names : List (List ℕ)) (entries : List Entry) 
       weighs_one (take index own.rows) (drop index own.rows) (observation (name_at (names_of own) place) row),
     )
 
-    pub more_change : (made : List Row) → IsSpliced (get_or groups place []) row.number 0 (row ∷ []) made
+    more_change : (made : List Row) → IsSpliced (get_or groups place []) row.number 0 (row ∷ []) made
         → IsChangeOf own (record { place = place; entries = Whole (take index entries ++ (entry ∷ [] ++ drop index entries)); rows = made; weight = weight + row.weight })
     more_change made sp =
         change_made own (take index own.rows) [] (observation (name_at (names_of own) place) row ∷ []) (drop index own.rows) (sym (take-append-drop index own.rows)) place inside
@@ -216,3 +217,51 @@ module _ (settings : Settings) (names : List (List ℕ)) (entries : List Entry) 
         below (All-nil (λ r. row.number ≤ r.number)) (All-weaker (λ q. row.number < q.number) (λ q. row.number ≤ q.number) (λ q h. omega arith) (drop index own.rows) above)
         sp (Whole (take index entries ++ (entry ∷ [] ++ drop index entries))) (placed_spliced index index (entry ∷ []) (all_one (λ e. e.place < length names) entry (omega (arith, inside, ap length kept.names_are)))) more_rows
         (weight + row.weight) more_weighs
+
+  -- the same of the study that is of these parts
+  pub stood_within : (s : Study) → own ≡ s → (index : ℕ) (e : Entry) → index < length s.rows → e ≡ get_or entries index e → e.row.weight ≤ weight
+  stood_within s same index e l is = stood_inside index e (omega (arith, l, ap (λ (t : Study). length t.rows) same, entries_count)) is
+
+  module _ (index : ℕ) (e : Entry) (is : e ≡ get_or entries index e) where
+    entry_inside : index < length own.rows → index < length entries
+    entry_inside l = omega (arith, l, entries_count)
+
+    abbrev OtherPuts : Row → Study → Type 0
+    OtherPuts row s = index < length s.rows → ((r : Observation) → slice_get s.rows index ≡ Some r → r.number ≡ row.number)
+        → ((r : Observation) → slice_get s.rows index ≡ Some r → IsValid (record s { rows = take index s.rows ++ observation r.group row ∷ drop (index + 1) s.rows }))
+        → (weight - e.row.weight + row.weight ≤ MOST_WEIGHT) × ((made : List Row) → IsSpliced (get_or groups e.place []) row.number 1 (row ∷ []) made
+        → PutsAt s index (row ∷ []) (record { place = e.place; entries = At index (record { place = e.place; row = row }); rows = made; weight = weight - e.row.weight + row.weight }))
+
+    pub puts_other : (row : Row) (s : Study) → own ≡ s → OtherPuts row s
+    puts_other row s same = subst (OtherPuts row) same (λ l number valid.
+        let k : index < length entries = entry_inside l in
+        let at : slice_get own.rows index ≡ Some (observed names e) = row_there index e k is in
+        let v = valid (observed names e) at in (
+          omega (arith, other_weighs index e k is row (number (observed names e) at) v, v.together),
+          λ made sp. other_puts index e k is row (number (observed names e) at) v made sp,
+        ))
+
+    abbrev LessPuts : Study → Type 0
+    LessPuts s = index < length s.rows → ((r : Observation) → slice_get s.rows index ≡ Some r → Contains (group_names (take index s.rows)) r.group)
+        → IsValid (record s { rows = take index s.rows ++ drop (index + 1) s.rows })
+        → (made : List Row) → IsSpliced (get_or groups e.place []) e.row.number 1 [] made
+        → PutsAt s index [] (record { place = e.place; entries = Whole (take index entries ++ ([] ++ drop (index + 1) entries)); rows = made; weight = weight - e.row.weight })
+
+    pub puts_less : (s : Study) → own ≡ s → LessPuts s
+    puts_less s same = subst LessPuts same (λ l before valid.
+        let k : index < length entries = entry_inside l in
+        less_puts index e k is (before (observed names e) (row_there index e k is)) valid)
+
+  module _ (index place : ℕ) (row : Row) where
+    abbrev MoreChanges : Study → Type 0
+    MoreChanges s = place < length (names_of s) → All (λ q. q.number < row.number) (take index s.rows) → All (λ q. row.number < q.number) (drop index s.rows)
+        → Contains (group_names (take index s.rows)) (name_at (names_of s) place) → IsValid (record s { rows = take index s.rows ++ observation (name_at (names_of s) place) row ∷ drop index s.rows })
+        → (made : List Row) → IsSpliced (get_or groups place []) row.number 0 (row ∷ []) made
+        → (c : Change) → c ≡ record { place = place; entries = Whole (take index entries ++ (record { place = place; row = row } ∷ [] ++ drop index entries)); rows = made; weight = weight + row.weight }
+        → IsChangeOf s c × (changed s c ≡ record s { rows = take index s.rows ++ observation (name_at (names_of s) place) row ∷ drop index s.rows })
+
+    pub changes_more : (s : Study) → own ≡ s → MoreChanges s
+    changes_more s same = subst MoreChanges same (λ inside below above before valid made sp c is. (
+      subst (IsChangeOf own) (sym is) (more_change index place row inside below above before valid made sp),
+      ap (changed own) is ∙ ap (λ (rows : List Observation). record own { rows = rows }) (more_rows index place row inside below above before valid),
+    ))

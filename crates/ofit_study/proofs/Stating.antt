@@ -7,7 +7,7 @@ use Rattle.std.specs.Prelude.{All, AllPairs, Contains, filter, map, sum_by, slic
 use Rattle.std.specs.declared.cmp.Ordering.TheVariants.{Less, Equal}
 use Rattle.ofit_num.specs.declared.row.Row.{Row}
 use Rattle.ofit_num.specs.Fit.{sum_below}
-use Rattle.ofit_num.specs.Limits.{all_rows}
+use Rattle.ofit_num.specs.RowTotals.{all_rows}
 use Rattle.ofit_num.specs.RowLimits.{IsRowWithinLimits, AreWithinLimits}
 use Rattle.ofit_num.specs.Loss.{row_sum}
 use Rattle.ofit_num.specs.ProblemPairs.{HasPlaces, HasDistinctPairs}

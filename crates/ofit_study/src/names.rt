@@ -74,18 +74,18 @@ impl Names {
         known.last() == name.last() && known == name
     }
 
-    /// The place of a name. It is found without hashing where it is the guess or the one behind it, as in
-    /// a table whose rows stand group by group or go round the groups.
+    /// The place of a name. It is found without hashing where it is the one behind the guess or the guess
+    /// itself, as in a table whose rows go round the groups or stand group by group.
     pub(crate) fn place_near(&self, guess: u32, name: &[u8]) -> Option<u32>
         ensures { MatchOption result (All (λ known. known ≢ name.now) self.now)
             (λ place. slice_get self.now place ≡ Some name.now) }
     {
         let next = guess.saturating_add(1);
-        if self.is_at(guess, name) {
-            return Some(guess);
-        }
         if self.is_at(next, name) {
             return Some(next);
+        }
+        if self.is_at(guess, name) {
+            return Some(guess);
         }
         self.place_of(name)
     }

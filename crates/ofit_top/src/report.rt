@@ -7,7 +7,7 @@ ghost use Rattle.ofit_top.specs.Steps.{CountsJob};
 use crate::printed::Printed;
 use ofit_answer::Answer;
 use ofit_fit::fit_study;
-use ofit_num::{Tally, are_lowest};
+use ofit_num::{Tally, tell_lowest};
 use ofit_report::write_report;
 use ofit_study::Study;
 use std::alloc::{AllocError, Global};
@@ -25,7 +25,7 @@ pub(crate) fn print_report(
     ensures within { OnErr result (CountsWithin (ready.Report study.now) tally.old tally.new) }
 {
     let values = fit_study(alloc, study, tally)?;
-    are_lowest(&values);
+    tell_lowest(&values);
     let text = write_report(alloc, study, &values)?;
     Ok(Printed {
         answer: Answer::Done,

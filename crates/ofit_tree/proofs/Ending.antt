@@ -11,7 +11,7 @@ use Rattle.ofit_num.specs.Fraction.{Fraction, AtMost}
 use Rattle.ofit_num.specs.Trial.{trial_of}
 use Rattle.ofit_num.specs.Fit.{LeastBestValues}
 use Rattle.ofit_num.specs.Level.{IsOfLevel, AreLevels}
-use Rattle.ofit_num.specs.Limits.{all_rows}
+use Rattle.ofit_num.specs.RowTotals.{all_rows}
 use Rattle.ofit_num.specs.Settled.{IsSettled, IsLeastSettled}
 use Rattle.ofit_num.proofs.Levels.{levels_settled, levels_least_settled, levels_least_best}
 use Rattle.ofit_loss.specs.Rows.{AreFittable}

@@ -13,7 +13,7 @@ use Rattle.ofit_num.specs.Unbounded.{no_bounds}
 use Rattle.ofit_num.specs.Meaning.{Meaning}
 use Rattle.ofit_num.specs.Fraction.{Fraction}
 use Rattle.ofit_num.specs.Law.{least_at, greatest_at}
-use Rattle.ofit_num.specs.Limits.{total_weight, all_rows}
+use Rattle.ofit_num.specs.RowTotals.{total_weight, all_rows}
 use Rattle.ofit_num.specs.RowLimits.{IsRowWithinLimits}
 use Rattle.ofit_num.specs.Sets.{set_sum}
 use Rattle.ofit_num.specs.Block.{IsPooled, IsCost}

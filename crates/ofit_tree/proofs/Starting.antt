@@ -12,7 +12,7 @@ use Rattle.ofit_num.specs.Groups.{RowLists}
 use Rattle.ofit_num.specs.Unbounded.{no_bounds}
 use Rattle.ofit_num.specs.Meaning.{Meaning}
 use Rattle.ofit_num.specs.Fraction.{Fraction}
-use Rattle.ofit_num.specs.Limits.{all_rows}
+use Rattle.ofit_num.specs.RowTotals.{all_rows}
 use Rattle.ofit_num.specs.Law.{HasFallingSpans}
 use Rattle.ofit_num.proofs.Lists.{All-slice_get}
 use Rattle.ofit_loss.specs.Rows.{AreFittable}

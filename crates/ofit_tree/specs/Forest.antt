@@ -6,7 +6,7 @@ use Rattle.ofit_num.specs.Problem.{Problem}
 use Rattle.ofit_num.specs.Meaning.{Meaning}
 use Rattle.ofit_num.specs.Fraction.{Fraction, AtMost, SameValue}
 use Rattle.ofit_num.specs.Law.{least_at, greatest_at}
-use Rattle.ofit_num.specs.Limits.{total_weight, all_rows}
+use Rattle.ofit_num.specs.RowTotals.{total_weight, all_rows}
 use Rattle.ofit_num.specs.RowLimits.{IsRowWithinLimits}
 use Rattle.ofit_num.specs.Sets.{set_sum}
 use Rattle.ofit_loss.specs.Rows.{AreFittable, special_count}

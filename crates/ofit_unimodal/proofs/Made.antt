@@ -8,7 +8,7 @@ use Rattle.std.proofs.lemmas.List.Elements.{All-head, All-tail}
 use Rattle.std.specs.Prelude.{ℤ, pos, ◌-ℤ◌, All, MatchOption, slice_index_or, unsigned_abs}
 use Rattle.ofit_num.specs.declared.row.Row.{Row}
 use Rattle.ofit_num.specs.Fit.{sum_below, trial_cost}
-use Rattle.ofit_num.specs.Limits.{total_weight}
+use Rattle.ofit_num.specs.RowTotals.{total_weight}
 use Rattle.ofit_num.specs.RowLimits.{IsRowWithinLimits, AreWithinLimits}
 use Rattle.ofit_num.specs.Loss.{median, row_sum}
 use Rattle.ofit_num.specs.Problem.{Problem}

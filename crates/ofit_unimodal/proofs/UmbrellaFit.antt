@@ -6,7 +6,7 @@ use Rattle.std.specs.List.{range_with_len}
 use Rattle.ofit_num.specs.Fit.{LeastBest, LeastBestValues}
 use Rattle.ofit_num.specs.Fraction.{Fraction}
 use Rattle.ofit_num.specs.Groups.{RowLists}
-use Rattle.ofit_num.specs.Limits.{all_rows}
+use Rattle.ofit_num.specs.RowTotals.{all_rows}
 use Rattle.ofit_num.specs.Loss.{median}
 use Rattle.ofit_num.specs.Problem.{Problem, problem_of}
 use Rattle.ofit_num.specs.ProblemPairs.{HasPlaces}

@@ -1,5 +1,5 @@
 ghost use Rattle.std.specs.Prelude.{◌≡◌, ◌+◌, ◌<◌, ◌≤◌, [], ◌∷◌, ◌++◌, All, List, length, IfOk, OnOk, unsigned_abs};
-ghost use Rattle.ofit_num.specs.Limits.{all_rows, total_weight};
+ghost use Rattle.ofit_num.specs.RowTotals.{all_rows, total_weight};
 ghost use Rattle.ofit_num.specs.RowLimits.{IsRowWithinLimits};
 ghost use Rattle.ofit_num.specs.declared.row.Row.{Row};
 ghost use Rattle.ofit_loss.specs.Rows.{AreFittable};

@@ -2,7 +2,7 @@ use Rattle.std.proofs.Common.{◌≡◌, ◌<◌, arith, List, map, length, slic
 use Rattle.std.proofs.lemmas.List.{length-map}
 use Rattle.std.specs.Prelude.{All}
 use Rattle.ofit_num.specs.declared.row.Row.{Row}
-use Rattle.ofit_num.specs.Limits.{all_rows}
+use Rattle.ofit_num.specs.RowTotals.{all_rows}
 use Rattle.ofit_loss.specs.Rows.{AreFittable}
 use Rattle.ofit_study.specs.Study.{groups_of, names_of, rows_named, problem_stated}
 use Rattle.ofit_fit.proofs.Taken.{taken_filled, taken_fittable}

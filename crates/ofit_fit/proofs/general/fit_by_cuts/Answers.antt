@@ -7,7 +7,7 @@ use Rattle.std.specs.Global.{Global}
 use Rattle.std.specs.List.{Contains}
 use Rattle.ofit_num.specs.declared.row.Row.{Row}
 use Rattle.ofit_num.specs.declared.frac.Frac.{Frac}
-use Rattle.ofit_num.specs.Limits.{all_rows}
+use Rattle.ofit_num.specs.RowTotals.{all_rows}
 use Rattle.ofit_num.specs.Fit.{LeastBestValues}
 use Rattle.ofit_loss.specs.Rows.{AreFittable, IsPlain}
 use Rattle.ofit_study.specs.Study.{groups_of, problem_stated}

@@ -2,7 +2,7 @@ use Rattle.std.proofs.Common.{◌≡◌, ℕ, sym, to_z, of_z, arith}
 use Rattle.std.proofs.lemmas.Int.{ints}
 use Rattle.std.specs.Int.{w128}
 use Rattle.std.specs.Prelude.{ℤ, pos, ◌*ℤ◌}
-use Rattle.ofit_num.specs.Limits.{total_weight}
+use Rattle.ofit_num.specs.RowTotals.{total_weight}
 use Rattle.ofit_loss.specs.Squares.{weighted_sum}
 use Rattle.ofit_report.specs.BlockMeans.{IsMean}
 use Rattle.ofit_report.proofs.Costs.{weight_some, mean_spread, mean_reduces, whole_small, whole_least, whole_reduces}

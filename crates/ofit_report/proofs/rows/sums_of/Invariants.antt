@@ -1,6 +1,6 @@
 use Rattle.std.proofs.Common.{◌≡◌, ◌≤◌, ◌*◌, ◌^◌, take}
 use Rattle.std.specs.Int.RustNames.{unsigned_abs}
-use Rattle.ofit_num.specs.Limits.{total_weight}
+use Rattle.ofit_num.specs.RowTotals.{total_weight}
 use Rattle.ofit_loss.specs.Squares.{weighted_sum}
 use Rattle.ofit_report.specs.RowSums.{weighted_squares}
 use Rattle.ofit_report.proofs.rows.sums_of.Given as goal

@@ -23,7 +23,7 @@ returns-clause-text c =
     let values = c.as_slice-fit.result.now in
     let least_best : LeastBestValues (meaning_of s.settings.loss) (problem_stated s) values = subst (λ (vs : List Fraction). LeastBestValues (meaning_of s.settings.loss) (problem_stated s) vs) (sym c.as_slice-fit.ensures.value) c.in_ok-values.ensures.least_best in
     IfOk-weaker c.summary_text.result (λ text. TellsSample job s values text.items) (λ text. SampleText job text.items)
-    (λ text h. record { study = s; made = c.in_ok-study.ensures; values = values; least_best = least_best; lowest = c.are_lowest.ensures; tells = h }) c.summary_text.ensures
+    (λ text h. record { study = s; made = c.in_ok-study.ensures; values = values; least_best = least_best; lowest = c.tell_lowest.ensures; tells = h }) c.summary_text.ensures
 
 pub returns-clause-counted : goal.returns-clause-counted
 returns-clause-counted c =

@@ -2,7 +2,7 @@ use Rattle.std.proofs.Common.{◌≡◌, ◌∙◌, ◌<◌, ◌+◌, ◌-◌, �
 use Rattle.std.proofs.lemmas.List.{length-reverse, length_push, get_or_read}
 use Rattle.std.specs.Prelude.{All, ℤ, reverse}
 use Rattle.ofit_num.specs.Groups.{RowLists}
-use Rattle.ofit_num.specs.Limits.{all_rows}
+use Rattle.ofit_num.specs.RowTotals.{all_rows}
 use Rattle.ofit_loss.specs.Rows.{AreFittable}
 use Rattle.ofit_chain.specs.Chain.{chain_problem}
 use Rattle.ofit_span.proofs.Fittable.{all_fittable}

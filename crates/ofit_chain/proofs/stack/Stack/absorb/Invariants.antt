@@ -1,7 +1,7 @@
 use Rattle.std.proofs.Common.{◌<◌, length, vec_len, ◌++◌, ◌∷◌}
 use Rattle.std.specs.Prelude.{All}
 use Rattle.ofit_num.specs.Groups.{RowLists}
-use Rattle.ofit_num.specs.Limits.{all_rows}
+use Rattle.ofit_num.specs.RowTotals.{all_rows}
 use Rattle.ofit_loss.specs.Rows.{AreFittable}
 use Rattle.ofit_chain.specs.Stacked.{IsStack}
 use Rattle.ofit_chain.proofs.Stacks.{Absorbs}

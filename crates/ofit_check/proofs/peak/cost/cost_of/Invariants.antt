@@ -1,5 +1,5 @@
 use Rattle.std.proofs.Common.{◌≡◌, ◌≤◌, ◌*◌, ◌^◌, take}
-use Rattle.ofit_num.specs.Limits.{total_weight}
+use Rattle.ofit_num.specs.RowTotals.{total_weight}
 use Rattle.ofit_num.specs.Loss.{row_sum}
 use Rattle.ofit_check.specs.PeakSteps.{distance}
 use Rattle.ofit_check.proofs.peak.cost.cost_of.Given as goal

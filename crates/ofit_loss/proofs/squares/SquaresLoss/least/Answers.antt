@@ -1,6 +1,6 @@
 use Rattle.std.proofs.Common.{arith, ap, unsigned_abs}
 use Rattle.std.proofs.lemmas.Int.{ints}
-use Rattle.ofit_num.specs.Limits.{total_weight}
+use Rattle.ofit_num.specs.RowTotals.{total_weight}
 use Rattle.ofit_loss.specs.Squares.{weighted_sum}
 use Rattle.ofit_loss.proofs.Sizes.{weighted_limit}
 use Rattle.ofit_loss.proofs.SquaresLeast.{weighs, replaced, least_minimiser, balances_within}

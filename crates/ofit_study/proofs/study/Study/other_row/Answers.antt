@@ -1,11 +1,5 @@
-use Rattle.std.proofs.Common.{◌≡◌, ◌<◌, ◌+◌, ◌-◌, ◌^◌, ◌++◌, ◌∷◌, [], ap, sym, subst, arith, length, take, drop, rules}
-use Rattle.std.specs.Prelude.{slice_get, Some}
-use Rattle.ofit_study.specs.declared.entry.Entry.{Entry}
-use Rattle.ofit_study.specs.Added.{observation}
-use Rattle.ofit_study.specs.Kept.{made_of, observed}
-use Rattle.ofit_study.specs.Put.{PutsAt}
-use Rattle.ofit_study.specs.Study.{Study, IsValid}
-use Rattle.ofit_study.proofs.Preparing.{entries_count, group_rises, other_puts, other_weighs, row_there, stood_inside}
+use Rattle.std.proofs.Common.{◌+◌, ◌-◌, ◌<◌, ◌^◌, arith, rules}
+use Rattle.ofit_study.proofs.Preparing.{group_rises, puts_other, stood_within}
 use Rattle.ofit_study.proofs.study.Study.other_row.Goals as goal
 
 pub spliced-requires-clause-rising : goal.spliced-requires-clause-rising
@@ -16,33 +10,17 @@ spliced-requires-clause-rising c =
 pub overflow_sub-weight : goal.overflow_sub-weight
 overflow_sub-weight c =
     let i = c.self.inside in
-    let e : Entry = c.index-entry.result.now in
-    let l : c.args.index < length i.entries.items = omega (arith, c.requires.inside, ap (λ (t : Study). length t.rows) c.self.view_is, entries_count i.settings i.names i.entries.items i.groups i.pairs i.weight c.self.invariant) in
-    stood_inside i.settings i.names i.entries.items i.groups i.pairs i.weight c.self.invariant c.args.index e l c.index-entry.ensures
+    stood_within i.settings i.names i.entries.items i.groups i.pairs i.weight c.self.invariant c.args.self.now c.self.view_is c.args.index c.index-entry.result.now c.requires.inside c.index-entry.ensures
 
 pub overflow_add-weight : goal.overflow_add-weight
 overflow_add-weight c =
     let i = c.self.inside in
-    let e : Entry = c.index-entry.result.now in
-    let l : c.args.index < length i.entries.items = omega (arith, c.requires.inside, ap (λ (t : Study). length t.rows) c.self.view_is, entries_count i.settings i.names i.entries.items i.groups i.pairs i.weight c.self.invariant) in
-    let at : slice_get c.args.self.now.rows c.args.index ≡ Some (observed i.names e) =
-    subst (λ (t : Study). slice_get t.rows c.args.index ≡ Some (observed i.names e)) c.self.view_is (row_there i.settings i.names i.entries.items i.groups i.pairs i.weight c.self.invariant c.args.index e l c.index-entry.ensures) in
-    let number : e.row.number ≡ c.args.row.number = c.requires.same (observed i.names e) at in
-    let valid : IsValid (record (made_of i.settings i.names i.entries.items i.pairs) { rows = take c.args.index (made_of i.settings i.names i.entries.items i.pairs).rows ++ observation (observed i.names e).group c.args.row ∷ drop (c.args.index + 1) (made_of i.settings i.names i.entries.items i.pairs).rows }) =
-    subst (λ (t : Study). IsValid (record t { rows = take c.args.index t.rows ++ observation (observed i.names e).group c.args.row ∷ drop (c.args.index + 1) t.rows })) (sym c.self.view_is) (c.requires.valid (observed i.names e) at) in
-    let fits : i.weight - e.row.weight + c.args.row.weight < 2 ^ 64 = omega (arith, other_weighs i.settings i.names i.entries.items i.groups i.pairs i.weight c.self.invariant c.args.index e l c.index-entry.ensures c.args.row number valid, valid.together) in
+    let puts = puts_other i.settings i.names i.entries.items i.groups i.pairs i.weight c.self.invariant c.args.index c.index-entry.result.now c.index-entry.ensures c.args.row c.args.self.now c.self.view_is c.requires.inside c.requires.same c.requires.valid in
+    let fits : i.weight - c.index-entry.result.now.row.weight + c.args.row.weight < 2 ^ 64 = omega (arith, puts.0) in
     search rules
 
 pub returns : goal.returns
 returns c =
     let i = c.self.inside in
-    let e : Entry = c.index-entry.result.now in
-    let l : c.args.index < length i.entries.items = omega (arith, c.requires.inside, ap (λ (t : Study). length t.rows) c.self.view_is, entries_count i.settings i.names i.entries.items i.groups i.pairs i.weight c.self.invariant) in
-    let at : slice_get c.args.self.now.rows c.args.index ≡ Some (observed i.names e) =
-    subst (λ (t : Study). slice_get t.rows c.args.index ≡ Some (observed i.names e)) c.self.view_is (row_there i.settings i.names i.entries.items i.groups i.pairs i.weight c.self.invariant c.args.index e l c.index-entry.ensures) in
-    let number : e.row.number ≡ c.args.row.number = c.requires.same (observed i.names e) at in
-    let valid : IsValid (record (made_of i.settings i.names i.entries.items i.pairs) { rows = take c.args.index (made_of i.settings i.names i.entries.items i.pairs).rows ++ observation (observed i.names e).group c.args.row ∷ drop (c.args.index + 1) (made_of i.settings i.names i.entries.items i.pairs).rows }) =
-    subst (λ (t : Study). IsValid (record t { rows = take c.args.index t.rows ++ observation (observed i.names e).group c.args.row ∷ drop (c.args.index + 1) t.rows })) (sym c.self.view_is) (c.requires.valid (observed i.names e) at) in
-    subst (λ (t : Study). PutsAt t c.args.index (c.args.row ∷ []) c.make.result) c.self.view_is
-    (subst (PutsAt (made_of i.settings i.names i.entries.items i.pairs) c.args.index (c.args.row ∷ [])) (sym c.make.ensures)
-    (other_puts i.settings i.names i.entries.items i.groups i.pairs i.weight c.self.invariant c.args.index e l c.index-entry.ensures c.args.row number valid c.in_ok-rows.rows.items c.in_ok-rows.ensures))
+    let puts = puts_other i.settings i.names i.entries.items i.groups i.pairs i.weight c.self.invariant c.args.index c.index-entry.result.now c.index-entry.ensures c.args.row c.args.self.now c.self.view_is c.requires.inside c.requires.same c.requires.valid in
+    rw (c.make.ensures) (puts.1 c.in_ok-rows.rows.items c.in_ok-rows.ensures)

@@ -3,7 +3,7 @@ use Rattle.std.proofs.lemmas.List.Elements.{All-append, All-push}
 use Rattle.std.proofs.lemmas.List.Sums.{sum_by-append, count_by-le-length}
 use Rattle.std.specs.Prelude.{All, nat_lt}
 use Rattle.ofit_num.specs.declared.row.Row.{Row}
-use Rattle.ofit_num.specs.Limits.{total_weight, all_rows}
+use Rattle.ofit_num.specs.RowTotals.{total_weight, all_rows}
 use Rattle.ofit_num.specs.RowLimits.{IsRowWithinLimits}
 use Rattle.ofit_loss.specs.Rows.{AreFittable}
 use Rattle.ofit_fit_tests.proofs.tree.draws.Draws.groups.Goals as goal

@@ -1,5 +1,5 @@
 use Rattle.std.proofs.Common.{◌*◌, ◌<◌, ◌≤◌, All, length}
-use Rattle.ofit_num.specs.Limits.{all_rows, total_weight}
+use Rattle.ofit_num.specs.RowTotals.{all_rows, total_weight}
 use Rattle.ofit_num.specs.RowLimits.{IsRowWithinLimits}
 use Rattle.ofit_fit_tests.proofs.tree.draws.Draws.groups.Given as goal
 
