@@ -148,9 +148,6 @@ bare s rows = record s { rows = rows; pairs = [] }
 pub bare_more : (s t u : Study) (xs ys : List Observation) → t ≡ bare s xs → u ≡ record t { rows = t.rows ++ ys } → u ≡ bare s (xs ++ ys)
 bare_more s t u xs ys e f = f ∙ ap (λ (x : Study). record x { rows = x.rows ++ ys }) e
 
-pub bare_whole : (s t u : Study) (xs : List Observation) → t ≡ bare s xs → u ≡ record t { pairs = s.pairs } → u ≡ record s { rows = xs }
-bare_whole s t u xs e f = f ∙ ap (λ (x : Study). record x { pairs = s.pairs }) e
-
 pub bare_valid : (s t : Study) (xs ys zs whole : List Observation) → t ≡ bare s xs → IsValid (record s { rows = whole }) → whole ≡ (xs ++ ys) ++ zs → IsValid (record t { rows = t.rows ++ ys })
 bare_valid s t xs ys zs whole e v is =
     subst (λ (x : Study). IsValid (record x { rows = x.rows ++ ys })) (sym e)

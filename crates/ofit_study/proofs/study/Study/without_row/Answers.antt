@@ -1,7 +1,7 @@
 use Rattle.std.proofs.Common.{◌≡◌, ◌+◌, ◌++◌, [], ◌∙◌, List, length, ap, refl, sym, append-nil, take, drop}
 use Rattle.ofit_study.specs.Study.{Observation}
 use Rattle.ofit_study.specs.Splice.{rows_between}
-use Rattle.ofit_study.proofs.Splicing.{bare, bare_known, bare_more, bare_valid, bare_whole, without_first, without_second}
+use Rattle.ofit_study.proofs.Splicing.{bare, bare_known, bare_more, bare_valid, without_first, without_second}
 use Rattle.ofit_study.proofs.study.Study.without_row.Goals as goal
 
 pub push_rows-requires-clause-valid : goal.push_rows-requires-clause-valid
@@ -28,13 +28,3 @@ take_pairs-requires c =
     let one : c.push_rows.new.self ≡ bare s first = bare_more s c.emptied-study.result c.push_rows.new.self [] first c.emptied-study.ensures c.in_ok-push_rows.ensures in
     let two : c.push_rows-2.new.self ≡ bare s whole = bare_more s c.push_rows.new.self c.push_rows-2.new.self first rest one c.in_ok-push_rows-2.ensures ∙ ap (bare s) (without_second s c.args.index (c.args.index + 1) c.row_count.result c.row_count.ensures.count) in
     bare_known s c.push_rows-2.new.self whole two c.requires.valid
-
-pub returns : goal.returns
-returns c =
-    let s = c.args.self.now in
-    let first : List Observation = rows_between s.rows 0 c.args.index in
-    let rest : List Observation = rows_between s.rows (c.args.index + 1) c.row_count.result in
-    let whole : List Observation = take c.args.index s.rows ++ drop (c.args.index + 1) s.rows in
-    let one : c.push_rows.new.self ≡ bare s first = bare_more s c.emptied-study.result c.push_rows.new.self [] first c.emptied-study.ensures c.in_ok-push_rows.ensures in
-    let two : c.push_rows-2.new.self ≡ bare s whole = bare_more s c.push_rows.new.self c.push_rows-2.new.self first rest one c.in_ok-push_rows-2.ensures ∙ ap (bare s) (without_second s c.args.index (c.args.index + 1) c.row_count.result c.row_count.ensures.count) in
-    bare_whole s c.push_rows-2.new.self c.take_pairs.new.self whole two c.in_ok-take_pairs.ensures
