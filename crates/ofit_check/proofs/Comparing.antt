@@ -1,9 +1,10 @@
 -- What comparisons of whole numbers tell.
-use Rattle.std.proofs.Common.{◌≡◌, ℕ, ◌<◌, refl, arith, Ordering}
+use Rattle.std.proofs.Common.{◌≡◌, ℕ, ◌<◌, false, refl, subst, arith, Ordering}
 use Rattle.std.specs.declared.cmp.Ordering.TheVariants.{Less, Equal, Greater}
 use Rattle.std.proofs.lemmas.Int.{ints}
 use Rattle.std.proofs.lemmas.Cmp.{ranked, int_ranked}
 use Rattle.std.specs.Ordering.{nat_cmp, int_cmp, is_le, is_eq, is_lt, MatchOrdering}
+use lib.Signed.{le_z}
 use Rattle.std.specs.Prelude.{ℤ, ◌≤ℤ◌, ◌<ℤ◌, ◌↔◌, IsTrue}
 
 at_most_by : (x y : ℤ) (o : Ordering) → MatchOrdering o (x <ℤ y) (x ≡ y) (y <ℤ x) → IsTrue (is_le o) ↔ (x ≤ℤ y)
@@ -29,3 +30,12 @@ less_by i j Greater h = (λ t. cc, λ t. absurd (omega (arith, h, t)))
 
 pub less_told : (i j : ℕ) (o : Ordering) → o ≡ nat_cmp i j → IsTrue (is_lt o) ↔ (i < j)
 less_told i j o e = less_by i j o (ranked i j o e)
+
+pub tested : (x y : ℤ) → IsTrue (le_z x y) ↔ (x ≤ℤ y)
+tested x y = (λ t. grind (arith, ints), λ h. grind (arith, ints))
+
+pub tested_above : (x y : ℤ) → le_z x y ≡ false → y <ℤ x
+tested_above x y e = grind (arith, ints)
+
+pub tested_as : (x y a b : ℤ) → x ≡ a → y ≡ b → IsTrue (le_z x y) ↔ (a ≤ℤ b)
+tested_as x y a b e f = subst (λ (z : ℤ). IsTrue (le_z x y) ↔ (z ≤ℤ b)) e (subst (λ (z : ℤ). IsTrue (le_z x y) ↔ (x ≤ℤ z)) f (tested x y))

@@ -3,9 +3,12 @@ pub mod Balances
 pub mod Comparing
 pub mod Missing
 pub mod Passed
+pub mod SheetTold
 pub mod Reading
 pub mod PeakLower
 pub mod PeakPassed
 pub mod PeakSteps
 pub mod PeakCosts
+pub mod PeakShape
 pub mod PeakSides
+pub mod PeakTold

@@ -1,12 +1,14 @@
 -- The lists of a balance's net, one node after another.
-use Rattle.std.proofs.Common.{◌≡◌, ℕ, ◌<◌, ◌+◌, ap, sym, ◌∙◌, subst, arith, inl, inr, List, [], ◌∷◌, ◌++◌, append_assoc, length, add-one}
+use Rattle.std.proofs.Common.{◌≡◌, ℕ, ◌<◌, ◌+◌, ap, ap₂, sym, ◌∙◌, subst, arith, inl, inr, List, [], ◌∷◌, ◌++◌, append_assoc, length, add-one}
 use Rattle.std.proofs.lemmas.Bool.{cases_order}
 use Rattle.std.proofs.lemmas.List.{get_or_append_left, get_or-append-add}
 use Rattle.std.specs.Prelude.{ℤ, pos}
 use Rattle.ofit_flow.specs.declared.edge.Edge.{Edge}
 use Rattle.ofit_cut.specs.declared.span.Span.{Span}
+use Rattle.ofit_cut.specs.declared.edges.Ends.{Ends}
 use Rattle.ofit_cut.specs.Sets.{weight_at}
 use Rattle.ofit_cut.specs.Span.{span_at}
+use Rattle.ofit_cut.specs.Edges.{weight_edges, gain, loss}
 use Rattle.ofit_cut.specs.Slack.{slack_edges, IsBase}
 use Rattle.ofit_cut.proofs.Capacity.{fall_at, rise_at}
 
@@ -24,6 +26,17 @@ slack_more hub spans bases n start es fs gs up down done first second rises fall
     ∙ ap (λ (z : ℤ). start ++ (slack_edges hub spans bases n ++ record { from = hub; to = n; cap = z } ∷ record { from = n; to = hub; cap = down } ∷ [])) rises
     ∙ ap (λ (z : ℤ). start ++ (slack_edges hub spans bases n ++ record { from = hub; to = n; cap = rise_at spans bases n } ∷ record { from = n; to = hub; cap = z } ∷ [])) falls
     ∙ ap (λ (k : ℕ). start ++ slack_edges hub spans bases k) (sym (add-one n))
+
+-- the two edges of one more weight
+pub weight_more : (ends : Ends) (weight : ℕ → ℤ) (n : ℕ) (start es fs gs : List Edge) (up down : ℤ) → es ≡ start ++ weight_edges ends weight n
+    → fs ≡ es ++ record { from = ends.source; to = n; cap = up } ∷ [] → gs ≡ fs ++ record { from = n; to = ends.sink; cap = down } ∷ [] → up ≡ gain (weight n) → down ≡ loss (weight n)
+    → gs ≡ start ++ weight_edges ends weight (n + 1)
+weight_more ends weight n start es fs gs up down done first second gains loses =
+    second
+    ∙ ap (λ (xs : List Edge). xs ++ record { from = n; to = ends.sink; cap = down } ∷ []) (first ∙ ap (λ (xs : List Edge). xs ++ record { from = ends.source; to = n; cap = up } ∷ []) done)
+    ∙ two_more start (weight_edges ends weight n) (record { from = ends.source; to = n; cap = up }) (record { from = n; to = ends.sink; cap = down })
+    ∙ ap₂ (λ (y z : ℤ). start ++ (weight_edges ends weight n ++ record { from = ends.source; to = n; cap = y } ∷ record { from = n; to = ends.sink; cap = z } ∷ [])) gains loses
+    ∙ ap (λ (k : ℕ). start ++ weight_edges ends weight k) (sym (add-one n))
 
 -- one more base
 pub base_more : (spans : List Span) (xs ys : List ℤ) (n : ℕ) (b : ℤ) → length xs ≡ n → ys ≡ xs ++ b ∷ [] → ((k : ℕ) → k < n → IsBase (span_at spans k) (weight_at xs k)) → IsBase (span_at spans n) b

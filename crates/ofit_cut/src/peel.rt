@@ -188,10 +188,18 @@ fn peel(stubs: &mut [Stub], leaf: &Leaf) {
 
 /// The leaves in the order in which they are peeled, each before the node at its other end, and the
 /// pairs that are left at each node.
-#[derive(Drop)]
 struct Peeling {
     leaves: Vec<Leaf>,
     stubs: Vec<Stub>,
+}
+
+/// Written out, so that a proof meets one call where a value is let go.
+impl Drop for Peeling {
+    fn drop(self) {
+        let Peeling { leaves, stubs } = self;
+        drop(leaves);
+        drop(stubs);
+    }
 }
 
 /// Peels leaves as long as there are any.

@@ -7,12 +7,26 @@ ghost use Rattle.ofit_flow.specs.Network.{members};
 use std::marker::Model;
 
 /// A maximum flow with its smallest and largest minimum cuts. Every call takes constant time.
-#[derive(Drop)]
 pub struct Flowed {
     value: i128,
     amounts: Vec<i128>,
     source_side: Vec<bool>,
     sink_side: Vec<bool>,
+}
+
+/// Written out, so that a proof meets one call where a value is let go.
+impl Drop for Flowed {
+    fn drop(self) {
+        let Flowed {
+            value: _,
+            amounts,
+            source_side,
+            sink_side,
+        } = self;
+        drop(amounts);
+        drop(source_side);
+        drop(sink_side);
+    }
 }
 
 impl Model for Flowed {

@@ -5,10 +5,18 @@ ghost use Rattle.ofit_flow.specs.Incidence.{HasRow, row_at};
 
 /// The numbers of the edges that touch each node, row after row: those of a node stand from its
 /// place in `starts` up to the next node's.
-#[derive(Drop)]
 pub(crate) struct Rows {
     pub(crate) starts: Vec<usize>,
     pub(crate) numbers: Vec<u32>,
+}
+
+/// Written out, so that a proof meets one call where a value is let go.
+impl Drop for Rows {
+    fn drop(self) {
+        let Rows { starts, numbers } = self;
+        drop(starts);
+        drop(numbers);
+    }
 }
 
 impl Rows {

@@ -14,10 +14,18 @@ use crate::step::Step;
 use std::alloc::{AllocError, Global};
 
 /// What a blocking flow keeps: how many of each node's edges are spent, and the path so far.
-#[derive(Drop)]
 pub(crate) struct Walk {
     pub(crate) spent: Vec<usize>,
     pub(crate) path: Vec<Step>,
+}
+
+/// Written out, so that a proof meets one call where a value is let go.
+impl Drop for Walk {
+    fn drop(self) {
+        let Walk { spent, path } = self;
+        drop(spent);
+        drop(path);
+    }
 }
 
 impl Walk {

@@ -24,12 +24,25 @@ pub struct Factors {
 ///
 /// A row is put in, or moved across, in time logarithmic in the rows. Of two pools the rows of the
 /// smaller one are put into the larger one.
-#[derive(Drop)]
 pub struct QuantilePool {
     low: BinaryHeap<Entry>,
     high: BinaryHeap<Reverse<Entry>>,
     low_weight: u64,
     weight: u64,
+}
+
+/// Written out, so that a proof meets one call where a value is let go.
+impl Drop for QuantilePool {
+    fn drop(self) {
+        let QuantilePool {
+            low,
+            high,
+            low_weight: _,
+            weight: _,
+        } = self;
+        drop(low);
+        drop(high);
+    }
 }
 
 impl QuantilePool {

@@ -13,13 +13,30 @@ use std::marker::Model;
 
 /// An order of places by distinct pairs, with its components: the largest sets of places that pairs
 /// join, taken in either direction. In clauses it is its number of places and its pairs.
-#[derive(Drop)]
 pub struct Order {
     pub(crate) pairs: Vec<(u32, u32)>,
     pub(crate) components: Vec<u32>,
     pub(crate) members: Vec<Vec<u32>>,
     pub(crate) highers: Vec<usize>,
     pub(crate) lowers: Vec<usize>,
+}
+
+/// Written out, so that a proof meets one call where a value is let go.
+impl Drop for Order {
+    fn drop(self) {
+        let Order {
+            pairs,
+            components,
+            members,
+            highers,
+            lowers,
+        } = self;
+        drop(pairs);
+        drop(components);
+        drop(members);
+        drop(highers);
+        drop(lowers);
+    }
 }
 
 impl Model for Order {

@@ -65,36 +65,3 @@ impl<R: Files> Folder for DiskFolder<'_, R> {
         }
     }
 }
-
-#[cfg(test)]
-mod tests {
-    use super::*;
-    use std::test::Fail;
-
-    // Over one piece that is read at once.
-    const LENGTH: usize = 5000;
-
-    #[test]
-    fn fetches_what_was_written(rt: HostRuntime) -> Result<(), Fail> {
-        let alloc = rt.alloc();
-        let name = "ofit_outside_fetched.txt";
-        let text = vec![in alloc; b'x'; LENGTH]?;
-        fs::write(&rt, name, text.as_slice())?;
-
-        let mut disk = DiskFolder::new(&rt);
-        let fetched = disk.fetch(alloc, name, 5000);
-        let longer = disk.fetch(alloc, name, 4999).err();
-        let missing = disk.fetch(alloc, "ofit_outside_missing.txt", 5000).err();
-        assert_eq!(rt; disk.faults, 0);
-        // A folder can be opened and not read.
-        let failed = disk.fetch(alloc, ".", 5000).err();
-        assert_eq!(rt; disk.faults, 1);
-        fs::remove_file(&rt, name)?;
-
-        assert_eq!(rt; fetched.ok().ok_or("fetched")?.as_slice(), text.as_slice());
-        assert_eq!(rt; longer, Some(FetchFault::Long));
-        assert_eq!(rt; missing, Some(FetchFault::Missing));
-        assert_eq!(rt; failed, Some(FetchFault::Failed));
-        Ok(())
-    }
-}

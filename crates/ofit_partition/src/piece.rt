@@ -5,10 +5,18 @@ ghost use Rattle.ofit_partition.specs.Piece.{is_marked, IsInside, AreNumbered, A
 use std::alloc::{AllocError, Global};
 
 /// Some of the places, rising, and the pairs between them.
-#[derive(Drop)]
 pub(crate) struct Piece {
     pub places: Vec<u32>,
     pub pairs: Vec<(u32, u32)>,
+}
+
+/// Written out, so that a proof meets one call where a value is let go.
+impl Drop for Piece {
+    fn drop(self) {
+        let Piece { places, pairs } = self;
+        drop(places);
+        drop(pairs);
+    }
 }
 
 /// A piece that is cut in two.

@@ -10,10 +10,18 @@ use ofit_num::{Frac, Groups, Row};
 use std::alloc::{AllocError, Global};
 
 /// For each of some places the least and the greatest balance of its rows at one value.
-#[derive(Drop)]
 pub(crate) struct Ends {
     pub least: Vec<i128>,
     pub greatest: Vec<i128>,
+}
+
+/// Written out, so that a proof meets one call where a value is let go.
+impl Drop for Ends {
+    fn drop(self) {
+        let Ends { least, greatest } = self;
+        drop(least);
+        drop(greatest);
+    }
 }
 
 /// The rows of the groups at these places.

@@ -9,10 +9,20 @@ use std::marker::Model;
 /// A writer of records into memory, seen as the text that it was given. After want of memory it takes no
 /// more records and gives no text. csv's writer holds a buffer of 8 KiB by value, so it stands behind
 /// one allocation.
-#[derive(Drop)]
 pub struct RecordWriter {
     writer: Box<Writer<Vec<u8>>>,
     has_failed: bool,
+}
+
+/// Written out, so that a proof meets one call where a value is let go.
+impl Drop for RecordWriter {
+    fn drop(self) {
+        let RecordWriter {
+            writer,
+            has_failed: _,
+        } = self;
+        drop(writer);
+    }
 }
 
 impl Model for RecordWriter {
@@ -69,11 +79,11 @@ impl RecordWriter {
     pub fn into_text(self) -> Result<Vec<u8>, AllocError>
         ensures { IfOk result (λ text. text.items ≡ self) }
     {
-        if self.has_failed {
+        let RecordWriter { writer, has_failed } = self;
+        if has_failed {
             return Err(AllocError);
         }
-        let writer = Box::into_inner(self.writer);
-        match writer.into_inner() {
+        match Box::into_inner(writer).into_inner() {
             Ok(text) => Ok(text),
             Err(_) => Err(AllocError),
         }

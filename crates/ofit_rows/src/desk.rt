@@ -36,6 +36,19 @@ impl Desk {
         self.folder.hold(name, bytes)
     }
 
+    /// Begins anew, where the fetch of this number fails.
+    fn begin(&mut self, alloc: Global, failing_fetch: u64) -> Result<(), AllocError> {
+        *self = Desk::new(alloc, failing_fetch)?;
+        Ok(())
+    }
+
+    /// Keeps what was put out.
+    fn keep(&mut self, alloc: Global, out: &MemSink, err: &MemSink) -> Result<(), AllocError> {
+        self.out = Vec::from_slice(alloc, out.bytes())?;
+        self.err = Vec::from_slice(alloc, err.bytes())?;
+        Ok(())
+    }
+
     /// Runs the words, and tells status, fits and cuts.
     pub(crate) fn run<R: Files>(
         &mut self,
@@ -46,17 +59,16 @@ impl Desk {
         let mut out = MemSink::new(alloc, self.room, &[self.failing_put])?;
         let mut err = MemSink::new(alloc, self.err_room, &[])?;
         let mut tally = Tally::new(rt);
-        let answer = run(
+        let status = status(&run(
             alloc,
             words,
             &mut self.folder,
             &mut out,
             &mut err,
             &mut tally,
-        );
-        self.out = Vec::from_slice(alloc, out.bytes())?;
-        self.err = Vec::from_slice(alloc, err.bytes())?;
-        let (status, fits, cuts) = (status(&answer), tally.fits(), tally.cuts());
+        ));
+        self.keep(alloc, &out, &err)?;
+        let (fits, cuts) = (tally.fits(), tally.cuts());
         format!(in alloc; "{status} {fits} {cuts}")
     }
 }
@@ -148,6 +160,59 @@ fn err_line<R: Abort>(rt: &R, alloc: Global, desk: &Desk, body: &str) -> Result<
     Ok(())
 }
 
+/// Sets the desk up, if the section says how.
+fn is_set_up(
+    alloc: Global,
+    desk: &mut Desk,
+    kind: &str,
+    rest: &str,
+    body: &str,
+) -> Result<bool, AllocError> {
+    if kind == "case" {
+        desk.begin(alloc, 0)?;
+    } else if kind == "failing-fetch" {
+        desk.begin(alloc, number_of(rest))?;
+    } else if kind == "failing-put" {
+        desk.failing_put = number_of(rest);
+    } else if kind == "room" {
+        desk.room = number_of(rest);
+    } else if kind == "err-room" {
+        desk.err_room = number_of(rest);
+    } else if kind == "file" {
+        desk.hold(rest, bytes_of(alloc, body)?.as_slice())?;
+    } else if kind == "keep" {
+        desk.folder.hold(rest, desk.out.as_slice())?;
+    } else {
+        return Ok(false);
+    }
+    Ok(true)
+}
+
+/// Runs what the section says, or looks at what the last run told.
+fn run_section<R: Abort + Files>(
+    rt: &R,
+    alloc: Global,
+    desk: &mut Desk,
+    kind: &str,
+    rest: &str,
+    body: &str,
+) -> Result<(), Fail> {
+    if kind == "run" {
+        run_line(rt, alloc, desk, rest, bytes_of(alloc, body)?.as_slice())
+    } else if kind == "cut" {
+        run_line(rt, alloc, desk, rest, body.as_bytes())
+    } else if kind == "begins" {
+        run_begun(rt, alloc, desk, rest, bytes_of(alloc, body)?.as_slice())
+    } else if kind == "any" {
+        run_unseen(rt, alloc, desk, rest)
+    } else if kind == "err" {
+        err_line(rt, alloc, desk, body)
+    } else {
+        assert!(rt; kind.is_empty(), "no section: {kind} {rest}");
+        Ok(())
+    }
+}
+
 /// Does what a section says.
 fn take_section<R: Abort + Files>(
     rt: &R,
@@ -160,34 +225,10 @@ fn take_section<R: Abort + Files>(
         Some(parts) => parts,
         None => (head, ""),
     };
-    if kind == "case" {
-        *desk = Desk::new(alloc, 0)?;
-    } else if kind == "failing-fetch" {
-        *desk = Desk::new(alloc, number_of(rest))?;
-    } else if kind == "failing-put" {
-        desk.failing_put = number_of(rest);
-    } else if kind == "room" {
-        desk.room = number_of(rest);
-    } else if kind == "err-room" {
-        desk.err_room = number_of(rest);
-    } else if kind == "file" {
-        desk.hold(rest, bytes_of(alloc, body)?.as_slice())?;
-    } else if kind == "keep" {
-        desk.folder.hold(rest, desk.out.as_slice())?;
-    } else if kind == "run" {
-        run_line(rt, alloc, desk, rest, bytes_of(alloc, body)?.as_slice())?;
-    } else if kind == "cut" {
-        run_line(rt, alloc, desk, rest, body.as_bytes())?;
-    } else if kind == "begins" {
-        run_begun(rt, alloc, desk, rest, bytes_of(alloc, body)?.as_slice())?;
-    } else if kind == "any" {
-        run_unseen(rt, alloc, desk, rest)?;
-    } else if kind == "err" {
-        err_line(rt, alloc, desk, body)?;
-    } else {
-        assert!(rt; kind.is_empty(), "no section: {head}");
+    if is_set_up(alloc, desk, kind, rest, body)? {
+        return Ok(());
     }
-    Ok(())
+    run_section(rt, alloc, desk, kind, rest, body)
 }
 
 /// Goes through the rows of a text. Each section begins with a line `-- KIND ..`, and what stands up to the

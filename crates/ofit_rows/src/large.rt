@@ -28,17 +28,18 @@ fn four_hundred(alloc: Global) -> Result<Vec<u8>, AllocError> {
     Ok(table)
 }
 
+/// A desk with a table as the file `d`.
+fn desk_with(alloc: Global, table: &[u8]) -> Result<Desk, AllocError> {
+    let mut desk = Desk::new(alloc, 0)?;
+    desk.hold("d", table)?;
+    Ok(desk)
+}
+
 /// How `fit d` ends over a table: status, fits and cuts.
 fn fit_of(rt: &HostRuntime, table: &[u8], failing_put: u64) -> Result<(String, usize), AllocError> {
-    let mut desk = Desk::new(rt.alloc(), 0)?;
+    let mut desk = desk_with(rt.alloc(), table)?;
     desk.failing_put = failing_put;
-    desk.hold("d", table)?;
-    let words = [
-        String::from_str(rt.alloc(), "fit")?,
-        String::from_str(rt.alloc(), "d")?,
-        String::from_str(rt.alloc(), "places=0")?,
-    ];
-    let told = desk.run(rt, rt.alloc(), &words)?;
+    let told = told(rt, &mut desk, "fit d places=0")?;
     Ok((told, desk.out.len()))
 }
 
@@ -56,19 +57,32 @@ fn is_refused(
 
 /// Whether `fit d` of the table is refused with this line.
 fn is_table_refused(rt: &HostRuntime, table: &[u8], message: &str) -> Result<bool, AllocError> {
-    let mut desk = Desk::new(rt.alloc(), 0)?;
-    desk.hold("d", table)?;
+    let mut desk = desk_with(rt.alloc(), table)?;
     is_refused(rt, &mut desk, "fit d places=0", message)
 }
 
+/// Whether a table of so many rows in so many groups is refused with this line.
+fn are_rows_refused(
+    rt: &HostRuntime,
+    rows: u32,
+    groups: u32,
+    message: &str,
+) -> Result<bool, AllocError> {
+    let table = many_rows(rt.alloc(), rows, groups)?;
+    is_table_refused(rt, table.as_slice(), message)
+}
+
 #[test]
-fn limits_of_rows_groups_and_bytes_are_told(rt: HostRuntime) -> Result<(), Fail> {
-    let groups = many_rows(rt.alloc(), 2_001, 3_000)?;
+fn limits_of_rows_and_groups_are_told(rt: HostRuntime) -> Result<(), Fail> {
     let message = "ofit: data record 2002: too many groups\n";
-    assert!(rt; is_table_refused(&rt, groups.as_slice(), message)?);
-    let rows = many_rows(rt.alloc(), 100_001, 1_999)?;
+    assert!(rt; are_rows_refused(&rt, 2_001, 3_000, message)?);
     let message = "ofit: data record 100002: too many rows\n";
-    assert!(rt; is_table_refused(&rt, rows.as_slice(), message)?);
+    assert!(rt; are_rows_refused(&rt, 100_001, 1_999, message)?);
+    Ok(())
+}
+
+#[test]
+fn a_table_of_too_many_bytes_is_refused(rt: HostRuntime) -> Result<(), Fail> {
     let long = vec![in rt.alloc(); 10u8; 33_554_433]?;
     assert!(rt; is_table_refused(&rt, long.as_slice(), "ofit: data: file too long\n")?);
     Ok(())
@@ -96,18 +110,22 @@ fn most_pairs(alloc: Global) -> Result<Vec<u8>, AllocError> {
     Ok(order)
 }
 
-#[test]
-fn the_limit_of_pairs_is_told(rt: HostRuntime) -> Result<(), Fail> {
-    let mut desk = Desk::new(rt.alloc(), 0)?;
-    desk.hold("d", equal_rows(rt.alloc())?.as_slice())?;
-    let mut order = most_pairs(rt.alloc())?;
-    desk.hold("o", order.as_slice())?;
+/// Whether the order is taken, and refused with one pair more.
+fn is_full(rt: &HostRuntime, desk: &mut Desk, order: &mut Vec<u8>) -> Result<bool, AllocError> {
     let line = "report d order=file:o places=0";
-    assert_eq!(rt; told(&rt, &mut desk, line)?.as_str(), "0 1 1");
+    desk.hold("o", order.as_slice())?;
+    let is_taken = told(rt, desk, line)?.as_str() == "0 1 1";
     order.extend_from_slice(b"g0,g1\n")?;
     desk.hold("o", order.as_slice())?;
     let message = "ofit: order record 20002: too many pairs\n";
-    assert!(rt; is_refused(&rt, &mut desk, line, message)?);
+    Ok(is_taken && is_refused(rt, desk, line, message)?)
+}
+
+#[test]
+fn the_limit_of_pairs_is_told(rt: HostRuntime) -> Result<(), Fail> {
+    let mut desk = desk_with(rt.alloc(), equal_rows(rt.alloc())?.as_slice())?;
+    let mut order = most_pairs(rt.alloc())?;
+    assert!(rt; is_full(&rt, &mut desk, &mut order)?);
     Ok(())
 }
 
@@ -151,69 +169,90 @@ fn lines_of(alloc: Global, line: &[u8], count: u32) -> Result<Vec<u8>, AllocErro
 
 /// Whether the script is refused with this line.
 fn is_script_refused(rt: &HostRuntime, script: &[u8], message: &str) -> Result<bool, AllocError> {
-    let mut desk = Desk::new(rt.alloc(), 0)?;
-    desk.hold("d", b"group,value\nA,1\n")?;
+    let mut desk = desk_with(rt.alloc(), b"group,value\nA,1\n")?;
     desk.hold("s", script)?;
     is_refused(rt, &mut desk, "session d s", message)
 }
 
 /// How a session with the script ends: status, fits and cuts.
 fn session_of(rt: &HostRuntime, script: &[u8]) -> Result<String, AllocError> {
-    let mut desk = Desk::new(rt.alloc(), 0)?;
+    let mut desk = desk_with(rt.alloc(), b"group,value\nA,1\n")?;
     desk.room = 2_000_000;
-    desk.hold("d", b"group,value\nA,1\n")?;
     desk.hold("s", script)?;
     told(rt, &mut desk, "session d s")
 }
 
+/// Whether a session with so many copies of a line ends well.
+fn are_lines_run(rt: &HostRuntime, line: &[u8], count: u32) -> Result<bool, AllocError> {
+    let script = lines_of(rt.alloc(), line, count)?;
+    Ok(session_of(rt, script.as_slice())?.as_str() == "0 1 0")
+}
+
+/// Whether a script of so many copies of a line is refused with this line.
+fn are_lines_refused(
+    rt: &HostRuntime,
+    line: &[u8],
+    count: u32,
+    message: &str,
+) -> Result<bool, AllocError> {
+    let script = lines_of(rt.alloc(), line, count)?;
+    is_script_refused(rt, script.as_slice(), message)
+}
+
 #[test]
 fn limits_of_scripts_are_told(rt: HostRuntime) -> Result<(), Fail> {
-    let alloc = rt.alloc();
-    let reports = lines_of(alloc, b"report\n", 100)?;
-    assert_eq!(rt; session_of(&rt, reports.as_slice())?.as_str(), "0 1 0");
-    let reports = lines_of(alloc, b"report\n", 101)?;
+    assert!(rt; are_lines_run(&rt, b"report\n", 100)?);
     let message = "ofit: script record 101: too many reports\n";
-    assert!(rt; is_script_refused(&rt, reports.as_slice(), message)?);
-    let edits = lines_of(alloc, b"remove,9\n", 10_000)?;
-    assert_eq!(rt; session_of(&rt, edits.as_slice())?.as_str(), "0 1 0");
-    let edits = lines_of(alloc, b"remove,9\n", 10_001)?;
+    assert!(rt; are_lines_refused(&rt, b"report\n", 101, message)?);
+    assert!(rt; are_lines_run(&rt, b"remove,9\n", 10_000)?);
     let message = "ofit: script record 10001: too many lines\n";
-    assert!(rt; is_script_refused(&rt, edits.as_slice(), message)?);
-    let long = vec![in alloc; 10u8; 33_554_433]?;
-    assert!(rt; is_script_refused(&rt, long.as_slice(), "ofit: script: file too long\n")?);
+    assert!(rt; are_lines_refused(&rt, b"remove,9\n", 10_001, message)?);
     Ok(())
 }
 
 #[test]
-fn an_unknown_peak_is_fitted_up_to_200_groups(rt: HostRuntime) -> Result<(), Fail> {
-    let mut desk = Desk::new(rt.alloc(), 0)?;
-    desk.room = 2_000_000;
-    desk.hold("d", many_rows(rt.alloc(), 201, 3_000)?.as_slice())?;
-    assert_eq!(rt;
-        told(&rt, &mut desk, "unimodal d places=0")?.as_str(),
-        "3 0 0"
-    );
-    assert_eq!(rt;
-        told(&rt, &mut desk, "verify-unimodal d d places=0")?.as_str(),
-        "3 0 0"
-    );
-    desk.hold("d", many_rows(rt.alloc(), 200, 3_000)?.as_slice())?;
-    assert_eq!(rt;
-        told(&rt, &mut desk, "unimodal d places=0")?.as_str(),
-        "0 0 0"
-    );
+fn a_script_of_too_many_bytes_is_refused(rt: HostRuntime) -> Result<(), Fail> {
+    let long = vec![in rt.alloc(); 10u8; 33_554_433]?;
+    assert!(rt; is_script_refused(&rt, long.as_slice(), "ofit: script: file too long\n")?);
     Ok(())
+}
+
+/// How the line ends over a table of so many groups, of one row each.
+fn told_of_groups(rt: &HostRuntime, groups: u32, line: &str) -> Result<String, AllocError> {
+    let table = many_rows(rt.alloc(), groups, 3_000)?;
+    let mut desk = desk_with(rt.alloc(), table.as_slice())?;
+    desk.room = 2_000_000;
+    told(rt, &mut desk, line)
+}
+
+#[test]
+fn an_unknown_peak_is_fitted_up_to_200_groups(rt: HostRuntime) -> Result<(), Fail> {
+    for (groups, line, ended) in [
+        (201, "unimodal d places=0", "3 0 0"),
+        (201, "verify-unimodal d d places=0", "3 0 0"),
+        (200, "unimodal d places=0", "0 0 0"),
+    ] {
+        assert_eq!(rt;
+            told_of_groups(&rt, groups, line)?.as_str(),
+            ended,
+            "{line}"
+        );
+    }
+    Ok(())
+}
+
+/// Whether the line ends well twice, with the same text.
+fn is_told_twice(rt: &HostRuntime, desk: &mut Desk, line: &str) -> Result<bool, AllocError> {
+    let first = told(rt, desk, line)?;
+    let text = Vec::from_slice(rt.alloc(), desk.out.as_slice())?;
+    let second = told(rt, desk, line)?;
+    let is_same = first.as_str() == second.as_str() && text.as_slice() == desk.out.as_slice();
+    Ok(is_same && first.starts_with("0 ") && !text.is_empty())
 }
 
 #[test]
 fn a_sample_is_told_twice_in_the_same_bytes(rt: HostRuntime) -> Result<(), Fail> {
     let mut desk = Desk::new(rt.alloc(), 0)?;
-    let first = told(&rt, &mut desk, "sample seed=7 groups=400 rows=2000")?;
-    let text = Vec::from_slice(rt.alloc(), desk.out.as_slice())?;
-    let second = told(&rt, &mut desk, "sample seed=7 groups=400 rows=2000")?;
-    assert!(rt; first.starts_with("0 "));
-    assert_eq!(rt; first.as_str(), second.as_str());
-    assert!(rt; !text.is_empty());
-    assert_eq!(rt; text.as_slice(), desk.out.as_slice());
+    assert!(rt; is_told_twice(&rt, &mut desk, "sample seed=7 groups=400 rows=2000")?);
     Ok(())
 }

@@ -1,6 +1,6 @@
-use crate::anew::{Touch, fit_edited};
+use crate::anew::{Touch, fit_after, fit_first};
 use ofit_cert::certify;
-use ofit_fit::{fit_component, fit_study, put_values};
+use ofit_fit::{fit_component, put_values};
 use ofit_num::{Frac, Tally, tell_lowest};
 use ofit_order::Order;
 use ofit_report::write_report;
@@ -10,11 +10,24 @@ use std::alloc::{AllocError, Global};
 use std::marker::Model;
 
 /// A study and its fit: the values of least cost within its bounds, and of these the pointwise least.
-#[derive(Drop)]
 pub struct Session {
     study: Study,
     order: Order,
     values: Vec<Frac>,
+}
+
+/// Written out, so that a proof meets one call where a value is let go.
+impl Drop for Session {
+    fn drop(self) {
+        let Session {
+            study,
+            order,
+            values,
+        } = self;
+        drop(study);
+        drop(order);
+        drop(values);
+    }
 }
 
 impl Model for Session {
@@ -60,8 +73,7 @@ impl Session {
         ensures grown_cuts { tally.old.cuts ≤ tally.new.cuts }
         ensures fewer_cuts { tally.new.cuts + tally.old.fits ≤ tally.old.cuts + tally.new.fits }
     {
-        let order = study.order(alloc)?;
-        let values = fit_study(alloc, &study, tally)?;
+        let (order, values) = fit_first(alloc, &study, tally)?;
         Ok(Session {
             study,
             order,
@@ -179,14 +191,12 @@ impl Session {
     {
         let alloc = *self.values.allocator();
         let study = self.study.edited_anew(edit)?;
-        let order = study.order(alloc)?;
-        let (values, touch) = fit_edited(
+        let (order, values, touch) = fit_after(
             alloc,
             &self.study,
             self.values.as_slice(),
             edit,
             &study,
-            &order,
             tally,
         )?;
         self.study = study;

@@ -12,12 +12,25 @@ use std::marker::Model;
 
 /// A printed sheet: settings, a size or none, values (place, fraction) with rising places, and flows
 /// (low place, high place, amount).
-#[derive(Drop)]
 pub struct Sheet {
     settings: Settings,
     size: Option<Size>,
     values: Vec<(u32, Frac)>,
     flows: Vec<(u32, u32, i128)>,
+}
+
+/// Written out, so that a proof meets one call where a value is let go.
+impl Drop for Sheet {
+    fn drop(self) {
+        let Sheet {
+            settings: _,
+            size: _,
+            values,
+            flows,
+        } = self;
+        drop(values);
+        drop(flows);
+    }
 }
 
 impl Model for Sheet {

@@ -8,6 +8,7 @@ pub mod GroupNames
 pub mod NameSets
 pub mod PairLists
 pub mod Pairing
+mod Popping
 pub mod Pushing
 pub mod Relating
 pub mod Splicing

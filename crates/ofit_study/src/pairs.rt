@@ -8,10 +8,18 @@ use std::alloc::{AllocError, Global};
 use std::marker::Model;
 
 /// Pairs of places, and for each place the indexes of the pairs that have it at an end.
-#[derive(Drop)]
 pub(crate) struct Pairs {
     list: Vec<(u32, u32)>,
     by_end: Vec<Vec<u32>>,
+}
+
+/// Written out, so that a proof meets one call where a value is let go.
+impl Drop for Pairs {
+    fn drop(self) {
+        let Pairs { list, by_end } = self;
+        drop(list);
+        drop(by_end);
+    }
 }
 
 impl Model for Pairs {

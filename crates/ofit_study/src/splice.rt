@@ -63,6 +63,28 @@ impl Study {
         self.set_pairs(pairs)
     }
 
+    /// Takes the rows of another study, with this row in place of those from the index `start` on, up to
+    /// `end`, and its pairs.
+    fn take_with_row_at(
+        &mut self,
+        of: &Study,
+        start: usize,
+        end: usize,
+        name: &[u8],
+        row: Row,
+    ) -> Result<(), AllocError>
+        requires emptied { self.old ≡ record of.now { rows = []; pairs = [] } }
+        requires ordered { start ≤ end }
+        requires inside { end ≤ length of.now.rows }
+        requires valid { IsValid (record of.now { rows = take start of.now.rows ++ observation name.now row ∷ drop end of.now.rows }) }
+        ensures { OnOk result (self.new ≡ record of.now { rows = take start of.now.rows ++ observation name.now row ∷ drop end of.now.rows }) }
+    {
+        self.push_rows(of, 0, start)?;
+        self.push(name, row)?;
+        self.push_rows(of, end, of.row_count() as usize)?;
+        self.take_pairs(of)
+    }
+
     /// The study with this row in place of those from the index `start` on, up to `end`. Expected linear
     /// time.
     pub(crate) fn with_row_at(
@@ -78,11 +100,20 @@ impl Study {
         ensures { IfOk result (λ study. study ≡ record self.now { rows = take start self.now.rows ++ observation name.now row ∷ drop end self.now.rows }) }
     {
         let mut study = self.emptied();
-        study.push_rows(self, 0, start)?;
-        study.push(name, row)?;
-        study.push_rows(self, end, self.row_count() as usize)?;
-        study.take_pairs(self)?;
+        study.take_with_row_at(self, start, end, name, row)?;
         Ok(study)
+    }
+
+    /// Takes the rows of another study but the one at an index, and its pairs.
+    fn take_without_row(&mut self, of: &Study, index: usize) -> Result<(), AllocError>
+        requires emptied { self.old ≡ record of.now { rows = []; pairs = [] } }
+        requires inside { index < length of.now.rows }
+        requires valid { IsValid (record of.now { rows = take index of.now.rows ++ drop (index + 1) of.now.rows }) }
+        ensures { OnOk result (self.new ≡ record of.now { rows = take index of.now.rows ++ drop (index + 1) of.now.rows }) }
+    {
+        self.push_rows(of, 0, index)?;
+        self.push_rows(of, index + 1, of.row_count() as usize)?;
+        self.take_pairs(of)
     }
 
     /// The study without the row at an index. Expected linear time.
@@ -92,9 +123,7 @@ impl Study {
         ensures { IfOk result (λ study. study ≡ record self.now { rows = take index self.now.rows ++ drop (index + 1) self.now.rows }) }
     {
         let mut study = self.emptied();
-        study.push_rows(self, 0, index)?;
-        study.push_rows(self, index + 1, self.row_count() as usize)?;
-        study.take_pairs(self)?;
+        study.take_without_row(self, index)?;
         Ok(study)
     }
 

@@ -16,7 +16,6 @@ use std::marker::Model;
 /// Rows of named groups, pairs of groups of which the low one is to be at most the high one, and the
 /// settings of a fit. Groups have places from 0, in the order of their first rows; a pair may have
 /// equal ends, and pairs may form cycles. Linear memory.
-#[derive(Drop)]
 pub struct Study {
     settings: Settings,
     names: Names,
@@ -24,6 +23,24 @@ pub struct Study {
     groups: GroupRows,
     pairs: Pairs,
     weight: u64,
+}
+
+/// Written out, so that a proof meets one call where a value is let go.
+impl Drop for Study {
+    fn drop(self) {
+        let Study {
+            settings: _,
+            names,
+            entries,
+            groups,
+            pairs,
+            weight: _,
+        } = self;
+        drop(names);
+        drop(entries);
+        drop(groups);
+        drop(pairs);
+    }
 }
 
 impl Model for Study {

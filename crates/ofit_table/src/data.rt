@@ -1,4 +1,4 @@
-ghost use Rattle.std.specs.Prelude.{◌≡◌, ◌+◌, ◌⊎◌, IfErr, OnOk, true, false};
+ghost use Rattle.std.specs.Prelude.{◌≡◌, ◌+◌, ◌⊎◌, [], IfErr, OnOk, Ok, Err, true, false};
 ghost use Rattle.csv.specs.Records.{fields_of};
 ghost use Rattle.ofit_study.specs.Settings.{InLimits};
 ghost use Rattle.ofit_table.specs.declared.fault.DataFault.TheVariants.{Memory};
@@ -47,6 +47,31 @@ fn add_record(
     }
 }
 
+/// Adds the rows of the records that come to a study without rows, or tells the first fault of a record.
+fn add_records(
+    study: &mut Study,
+    records: &mut Records<'_>,
+    row: &mut ByteRecord,
+    columns: DataColumns,
+) -> Result<(), DataFault>
+    requires rows { study.old.rows ≡ [] }
+    requires pairs { study.old.pairs ≡ [] }
+    ensures ok { OnOk result (RowsRead columns records.old study.old.settings (Ok study.new)) }
+    ensures err { IfErr result (λ fault. RowsRead columns records.old study.old.settings (Err fault)) }
+{
+    loop {
+        let number = study.row_count() + 2;
+        match records.read_next(row) {
+            Ok(true) => {}
+            Ok(false) => return Ok(()),
+            Err(_) => return Err(DataFault::Memory),
+        }
+        if let Err(fault) = add_record(study, row, columns, number) {
+            return Err(fault);
+        }
+    }
+}
+
 /// The study of the records behind the header, or the first fault of a record.
 fn read_rows(
     alloc: Global,
@@ -59,16 +84,9 @@ fn read_rows(
 {
     let mut study = Study::empty(alloc, settings);
     let mut row = ByteRecord::new(alloc);
-    loop {
-        let number = study.row_count() + 2;
-        match records.read_next(&mut row) {
-            Ok(true) => {}
-            Ok(false) => return Ok(study),
-            Err(_) => return Err(DataFault::Memory),
-        }
-        if let Err(fault) = add_record(&mut study, &row, columns, number) {
-            return Err(fault);
-        }
+    match add_records(&mut study, &mut records, &mut row, columns) {
+        Ok(()) => Ok(study),
+        Err(fault) => Err(fault),
     }
 }
 

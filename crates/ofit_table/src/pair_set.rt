@@ -3,9 +3,16 @@ use std::alloc::{AllocError, Global};
 use std::marker::Model;
 
 /// Pairs of places, each once, in the order in which they came first.
-#[derive(Drop)]
 pub(crate) struct PairSet {
     set: IndexSet<(u32, u32)>,
+}
+
+/// Written out, so that a proof meets one call where a value is let go.
+impl Drop for PairSet {
+    fn drop(self) {
+        let PairSet { set } = self;
+        drop(set);
+    }
 }
 
 impl Model for PairSet {

@@ -1,4 +1,4 @@
-ghost use Rattle.std.specs.Prelude.{◌≡◌, ◌≤◌, ◌+◌, ◌⊎◌, IfErr, IfOk, OnOk, length};
+ghost use Rattle.std.specs.Prelude.{◌≡◌, ◌≤◌, ◌+◌, ◌⊎◌, [], IfErr, IfOk, OnOk, Ok, Err, length};
 ghost use Rattle.csv.specs.Records.{fields_of};
 ghost use Rattle.ofit_num.specs.declared.limits.TheConstants.{LONGEST_FILE};
 ghost use Rattle.ofit_study.specs.Study.{most_pairs, names_of};
@@ -60,6 +60,37 @@ fn note_pair(known: &mut PairSet, pair: (u32, u32), number: u32) -> Result<(), O
     }
 }
 
+/// Notes the pairs of the records that come, where none is known yet, or tells the first fault of a record.
+fn note_records(
+    known: &mut PairSet,
+    records: &mut Records<'_>,
+    row: &mut ByteRecord,
+    columns: OrderColumns,
+    study: &Study,
+) -> Result<(), OrderFault>
+    requires none { known.old ≡ [] }
+    requires few { length records.old ≤ LONGEST_FILE + 1 }
+    ensures ok { OnOk result (KnownRead columns study.now records.old (Ok known.new)) }
+    ensures err { IfErr result (λ fault. KnownRead columns study.now records.old (Err fault)) }
+{
+    let mut number: u32 = 2;
+    loop {
+        match records.read_next(row) {
+            Ok(true) => {}
+            Ok(false) => return Ok(()),
+            Err(_) => return Err(OrderFault::Memory),
+        }
+        let pair = match read_pair(row, columns, study, number) {
+            Ok(pair) => pair,
+            Err(fault) => return Err(fault),
+        };
+        if let Err(fault) = note_pair(known, pair, number) {
+            return Err(fault);
+        }
+        number += 1;
+    }
+}
+
 /// The pairs of the records behind the header, each once, or the first fault of a record.
 fn read_known(
     alloc: Global,
@@ -72,21 +103,9 @@ fn read_known(
 {
     let mut known = PairSet::new(alloc);
     let mut row = ByteRecord::new(alloc);
-    let mut number: u32 = 2;
-    loop {
-        match records.read_next(&mut row) {
-            Ok(true) => {}
-            Ok(false) => return Ok(known),
-            Err(_) => return Err(OrderFault::Memory),
-        }
-        let pair = match read_pair(&row, columns, study, number) {
-            Ok(pair) => pair,
-            Err(fault) => return Err(fault),
-        };
-        if let Err(fault) = note_pair(&mut known, pair, number) {
-            return Err(fault);
-        }
-        number += 1;
+    match note_records(&mut known, &mut records, &mut row, columns, study) {
+        Ok(()) => Ok(known),
+        Err(fault) => Err(fault),
     }
 }
 

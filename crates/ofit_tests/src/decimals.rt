@@ -105,15 +105,29 @@ fn decimals_are_written(rt: HostRuntime) -> Result<(), Fail> {
     Ok(())
 }
 
+fn floor(num: i128, den: i128, tens: u32) -> Option<i128> {
+    let made = Frac::make(num, den)?;
+    if tens <= 9 {
+        Some(made.floor_scaled(tens))
+    } else {
+        None
+    }
+}
+
 #[test]
-fn fractions_are_rounded_down(rt: HostRuntime) -> Result<(), Fail> {
+fn fractions_are_rounded_down(rt: HostRuntime) {
+    for (num, den, tens, want) in [
+        (-1, 3, 0, -1),
+        (-1, 3, 3, -334),
+        (5, 2, 0, 2),
+        (5, 2, 9, 2_500_000_000),
+    ] {
+        assert_eq!(rt; floor(num, den, tens), Some(want));
+    }
+}
+
+#[test]
+fn fractions_are_reduced(rt: HostRuntime) {
     assert_eq!(rt; lowest(10, 4), (5, 2));
     assert_eq!(rt; lowest(0, 7), (0, 1));
-    let third = Frac::make(-1, 3).ok_or("minus a third")?;
-    assert_eq!(rt; third.floor_scaled(0), -1);
-    assert_eq!(rt; third.floor_scaled(3), -334);
-    let half = Frac::make(5, 2).ok_or("five halves")?;
-    assert_eq!(rt; half.floor_scaled(0), 2);
-    assert_eq!(rt; half.floor_scaled(9), 2_500_000_000);
-    Ok(())
 }

@@ -4,14 +4,22 @@
 #![tactic(auto)]
 
 #[cfg(test)]
+mod cuts;
+#[cfg(test)]
 mod decimals;
 #[cfg(test)]
-mod levels;
+mod fits;
+#[cfg(test)]
+mod flows;
+#[cfg(test)]
+mod losses;
 #[cfg(test)]
 mod names;
 #[cfg(test)]
 mod numbers;
 #[cfg(test)]
 mod orders;
+#[cfg(test)]
+mod outside;
 #[cfg(test)]
 mod records;

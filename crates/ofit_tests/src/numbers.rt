@@ -1,4 +1,6 @@
-use ofit_num::{Frac, WholeFault, append_signed, append_whole, read_signed, read_whole};
+use ofit_num::{
+    Frac, Groups, Row, WholeFault, append_signed, append_whole, read_signed, read_whole,
+};
 use std::cmp::Ordering;
 use std::test::Fail;
 
@@ -62,18 +64,37 @@ fn texts_are_canonical(rt: HostRuntime) -> Result<(), Fail> {
 
 #[test]
 fn canonical_texts_are_read(rt: HostRuntime) {
-    assert_eq!(rt; read_whole(b"0", 0), Ok(0));
-    assert_eq!(rt; read_whole(b"907", 907), Ok(907));
-    assert_eq!(rt; read_whole(b"908", 907), Err(WholeFault::TooLarge));
-    assert_eq!(rt; read_signed(b"-5", 9), Ok(-5));
-    assert_eq!(rt; read_signed(b"9", 9), Ok(9));
-    assert_eq!(rt; read_signed(b"-10", 9), Err(WholeFault::TooLarge));
-    let most = b"340282366920938463463374607431768211455";
-    assert_eq!(rt; read_whole(most, u128::MAX), Ok(u128::MAX));
-    let more = b"340282366920938463463374607431768211456";
-    assert_eq!(rt; read_whole(more, u128::MAX), Err(WholeFault::TooLarge));
-    let long = b"99999999999999999999999999999999999999999999999999";
-    assert_eq!(rt; read_whole(long, u128::MAX), Err(WholeFault::TooLarge));
+    let wholes: [(&[u8], u128, Result<u128, WholeFault>); 6] = [
+        (b"0", 0, Ok(0)),
+        (b"907", 907, Ok(907)),
+        (b"908", 907, Err(WholeFault::TooLarge)),
+        (
+            b"340282366920938463463374607431768211455",
+            u128::MAX,
+            Ok(u128::MAX),
+        ),
+        (
+            b"340282366920938463463374607431768211456",
+            u128::MAX,
+            Err(WholeFault::TooLarge),
+        ),
+        (
+            b"99999999999999999999999999999999999999999999999999",
+            u128::MAX,
+            Err(WholeFault::TooLarge),
+        ),
+    ];
+    for (text, limit, want) in wholes {
+        assert_eq!(rt; read_whole(text, limit), want);
+    }
+    let signed: [(&[u8], Result<i128, WholeFault>); 3] = [
+        (b"-5", Ok(-5)),
+        (b"9", Ok(9)),
+        (b"-10", Err(WholeFault::TooLarge)),
+    ];
+    for (text, want) in signed {
+        assert_eq!(rt; read_signed(text, 9), want);
+    }
 }
 
 #[test]
@@ -83,8 +104,22 @@ fn other_texts_are_not_numbers(rt: HostRuntime) {
         assert_eq!(rt; read_whole(text, 9), Err(WholeFault::NotWhole));
         assert_eq!(rt; read_signed(text, 9), Err(WholeFault::NotWhole));
     }
-    assert_eq!(rt; read_signed(b"-0", 9), Err(WholeFault::NotWhole));
-    assert_eq!(rt; read_signed(b"-01", 9), Err(WholeFault::NotWhole));
-    assert_eq!(rt; read_signed(b"--1", 9), Err(WholeFault::NotWhole));
     assert_eq!(rt; read_whole(b"-1", 9), Err(WholeFault::NotWhole));
+    let signed: [&[u8]; 3] = [b"-0", b"-01", b"--1"];
+    for text in signed {
+        assert_eq!(rt; read_signed(text, 9), Err(WholeFault::NotWhole));
+    }
+}
+
+#[test]
+fn rows_that_are_added_at_once_are_one_group(rt: HostRuntime) -> Result<(), Fail> {
+    let row = Row {
+        number: 1,
+        value: 3,
+        weight: 1,
+    };
+    let mut groups = Groups::new(rt.alloc());
+    groups.add(&[row, row])?;
+    assert_eq!(rt; groups.count(), 1);
+    Ok(())
 }

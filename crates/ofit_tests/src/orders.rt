@@ -28,70 +28,28 @@ fn shown(alloc: Global, pairs: &[(u32, u32)], n: u32) -> Result<String, Fail> {
 }
 
 #[test]
-fn small_orders_have_their_forms(rt: HostRuntime) -> Result<(), Fail> {
-    let alloc = rt.alloc();
-    let none: [(u32, u32); 0] = [];
-    assert_eq!(rt; shown(alloc, &none, 0)?.as_str(), "", "no places");
-    assert_eq!(rt;
-        shown(alloc, &none, 2)?.as_str(),
-        "Chain [0];Chain [1];",
-        "no pairs"
-    );
-    assert_eq!(rt;
-        shown(alloc, &[(3, 0), (1, 3), (2, 1)], 4)?.as_str(),
-        "Chain [0, 1, 2, 3];"
-    );
-    assert_eq!(rt;
-        shown(alloc, &[(2, 0), (2, 0)], 3)?.as_str(),
-        "Chain [0, 2];Chain [1];",
-        "twice"
-    );
-    assert_eq!(rt;
-        shown(alloc, &[(0, 1), (2, 1)], 3)?.as_str(),
-        "TreeUp [0, 1, 2];"
-    );
-    assert_eq!(rt;
-        shown(alloc, &[(1, 0), (1, 2)], 3)?.as_str(),
-        "TreeDown [0, 1, 2];"
-    );
-    Ok(())
-}
-
-#[test]
-fn other_orders_are_general(rt: HostRuntime) -> Result<(), Fail> {
-    let alloc = rt.alloc();
-    let path = [(0, 1), (2, 1), (2, 3)];
-    assert_eq!(rt;
-        shown(alloc, &path, 4)?.as_str(),
-        "General [0, 1, 2, 3];",
-        "up and down"
-    );
-    let diamond = [(0, 1), (0, 2), (1, 3), (2, 3)];
-    assert_eq!(rt;
-        shown(alloc, &diamond, 4)?.as_str(),
-        "General [0, 1, 2, 3];",
-        "a diamond"
-    );
-    assert_eq!(rt;
-        shown(alloc, &[(0, 1), (1, 0)], 2)?.as_str(),
-        "General [0, 1];",
-        "a cycle of two"
-    );
-    let cycle = [(1, 2), (2, 3), (3, 1)];
-    assert_eq!(rt;
-        shown(alloc, &cycle, 4)?.as_str(),
-        "Chain [0];General [1, 2, 3];"
-    );
-    assert_eq!(rt;
-        shown(alloc, &[(0, 0)], 1)?.as_str(),
-        "General [0];",
-        "equal ends"
-    );
-    let beside = [(0, 1), (1, 1), (2, 3)];
-    assert_eq!(rt;
-        shown(alloc, &beside, 4)?.as_str(),
-        "General [0, 1];Chain [2, 3];"
-    );
+fn orders_have_their_forms(rt: HostRuntime) -> Result<(), Fail> {
+    let cases: [(&[(u32, u32)], u32, &str); 12] = [
+        (&[], 0, ""),
+        (&[], 2, "Chain [0];Chain [1];"),
+        (&[(3, 0), (1, 3), (2, 1)], 4, "Chain [0, 1, 2, 3];"),
+        (&[(2, 0), (2, 0)], 3, "Chain [0, 2];Chain [1];"),
+        (&[(0, 1), (2, 1)], 3, "TreeUp [0, 1, 2];"),
+        (&[(1, 0), (1, 2)], 3, "TreeDown [0, 1, 2];"),
+        (&[(0, 1), (2, 1), (2, 3)], 4, "General [0, 1, 2, 3];"),
+        (
+            &[(0, 1), (0, 2), (1, 3), (2, 3)],
+            4,
+            "General [0, 1, 2, 3];",
+        ),
+        (&[(0, 1), (1, 0)], 2, "General [0, 1];"),
+        (&[(1, 2), (2, 3), (3, 1)], 4, "Chain [0];General [1, 2, 3];"),
+        (&[(0, 0)], 1, "General [0];"),
+        (&[(0, 1), (1, 1), (2, 3)], 4, "General [0, 1];Chain [2, 3];"),
+    ];
+    for (pairs, places, forms) in cases {
+        assert_eq!(rt; shown(rt.alloc(), pairs, places)?.as_str(), forms);
+    }
     Ok(())
 }
 

@@ -38,3 +38,11 @@ none_counts ready counts has = record {
   has = has;
   counted = record { fits_are = omega arith; least_cuts = omega arith; most_cuts = omega arith };
 }
+
+-- not even where memory is wanting
+pub none_within : (ready : Ready) (counts : Counts) → CountsWithin ready counts counts
+none_within ready counts = record {
+  fits = 0;
+  counted = record { fits_are = omega arith; least_cuts = omega arith; most_cuts = omega arith };
+  most = λ n h. omega arith;
+}

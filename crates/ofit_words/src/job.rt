@@ -11,7 +11,6 @@ pub enum OrderChoice {
 }
 
 /// What a fit is made from.
-#[derive(Drop)]
 pub struct Inputs {
     /// The name of the data table.
     pub table: Text,
@@ -19,6 +18,19 @@ pub struct Inputs {
     pub order: OrderChoice,
     /// The settings of the fit, within their limits.
     pub settings: Settings,
+}
+
+/// Written out, so that a proof meets one call where a value is let go.
+impl Drop for Inputs {
+    fn drop(self) {
+        let Inputs {
+            table,
+            order,
+            settings: _,
+        } = self;
+        drop(table);
+        drop(order);
+    }
 }
 
 /// The shape of a sample's order.
@@ -50,7 +62,6 @@ pub struct SampleJob {
 }
 
 /// What the words ask for.
-#[derive(Drop)]
 pub enum Job {
     /// Print the sheet of a fit.
     Fit(Inputs),
@@ -68,4 +79,23 @@ pub enum Job {
     Levels(u32),
     /// Make a study and print its summary.
     Sample(SampleJob),
+}
+
+/// Written out, so that a proof meets one call where a value is let go.
+impl Drop for Job {
+    fn drop(self) {
+        match self {
+            Job::Fit(inputs) | Job::Report(inputs) => drop(inputs),
+            Job::Verify(inputs, name) | Job::Session(inputs, name) => {
+                drop(inputs);
+                drop(name);
+            }
+            Job::Unimodal(table, _) => drop(table),
+            Job::VerifyUnimodal(table, name, _) => {
+                drop(table);
+                drop(name);
+            }
+            Job::Levels(_) | Job::Sample(_) => {}
+        }
+    }
 }

@@ -14,7 +14,6 @@ use ofit_records::Records;
 use ofit_study::Study;
 
 /// The records to come, the last one that was read, and its number.
-#[derive(Drop)]
 pub(crate) struct Cursor<'a> {
     /// The records to come.
     pub(crate) records: Records<'a>,
@@ -22,6 +21,19 @@ pub(crate) struct Cursor<'a> {
     pub(crate) row: ByteRecord,
     /// Its number, and 0 before the first one.
     pub(crate) number: u32,
+}
+
+/// Written out, so that a proof meets one call where a value is let go.
+impl Drop for Cursor<'_> {
+    fn drop(self) {
+        let Cursor {
+            records,
+            row,
+            number: _,
+        } = self;
+        drop(records);
+        drop(row);
+    }
 }
 
 /// What a fault of the record of this number is to a sheet.

@@ -8,7 +8,6 @@ use std::marker::Model;
 /// values, and the sides. Rise i is of the first i groups, fall i of the groups from the place i on. In
 /// the sheet of a fit the sides are chain fits, which certify the values; one that is read has the shape
 /// alone, and the checker tells the rest.
-#[derive(Drop)]
 pub struct Peaked {
     places: u32,
     peak: Option<u32>,
@@ -16,6 +15,23 @@ pub struct Peaked {
     values: Vec<i64>,
     rises: Vec<Side>,
     falls: Vec<Side>,
+}
+
+/// Written out, so that a proof meets one call where a value is let go.
+impl Drop for Peaked {
+    fn drop(self) {
+        let Peaked {
+            places: _,
+            peak: _,
+            cost: _,
+            values,
+            rises,
+            falls,
+        } = self;
+        drop(values);
+        drop(rises);
+        drop(falls);
+    }
 }
 
 impl Model for Peaked {

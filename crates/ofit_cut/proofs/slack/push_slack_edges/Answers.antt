@@ -1,9 +1,10 @@
-use Rattle.std.proofs.Common.{rules, ap, ◌∙◌, FitsSigned, to_z, of_z}
+use Rattle.std.proofs.Common.{rules, arith, ap, ◌∙◌, FitsSigned, to_z, of_z}
 use Rattle.std.proofs.lemmas.Int.{to_z-of_z}
 use Rattle.std.specs.Int.{w128}
 use Rattle.ofit_cut.specs.Sets.{weight_at}
 use Rattle.ofit_cut.specs.Span.{span_at}
 use Rattle.ofit_cut.specs.Slack.{rise, fall}
+use Rattle.ofit_cut.proofs.Sizes.{span-le}
 use Rattle.ofit_cut.proofs.Slacks.{slack_more}
 use Rattle.ofit_cut.proofs.slack.push_slack_edges.Goals as goal
 
@@ -19,3 +20,9 @@ loop-node-preserved c =
     (to_z w128 (of_z w128 c.rise.result)) (to_z w128 (of_z w128 c.fall.result)) c.loop-node.invariant c.in_ok-push.ensures.items c.in_ok-push-2.ensures.items
     (to_z-of_z w128 c.rise.result rise_fits ∙ c.rise.ensures ∙ ap (rise (span_at spans n).greatest) (to_z-of_z w128 (weight_at bases n) base_fits))
     (to_z-of_z w128 c.fall.result fall_fits ∙ c.fall.ensures ∙ ap (fall (span_at spans n).least) (to_z-of_z w128 (weight_at bases n) base_fits))
+
+pub rise-requires-clause-small : goal.rise-requires-clause-small
+rise-requires-clause-small c = omega (arith, span-le c.args.spans.now c.loop-node.node c.loop-node-test.true, c.requires.small)
+
+pub fall-requires-clause-small : goal.fall-requires-clause-small
+fall-requires-clause-small c = omega (arith, span-le c.args.spans.now c.loop-node.node c.loop-node-test.true, c.requires.small)

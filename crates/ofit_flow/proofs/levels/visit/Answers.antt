@@ -2,8 +2,8 @@ use Rattle.std.proofs.Common.{refl, arith, ◌≡◌, ◌+◌, sym, subst, ◌�
 use Rattle.std.proofs.lemmas.List.{get_or_default}
 use Rattle.ofit_flow.specs.Flow.{amount_at, edge_at}
 use Rattle.ofit_flow.specs.Levels.{level_at}
-use Rattle.ofit_flow.specs.Search.{IsLedOn, AreAtMost, height}
-use Rattle.ofit_flow.proofs.Searching.{Extends-refl, height_is, level_read, levelled_within, part_way_more}
+use Rattle.ofit_flow.specs.Search.{CanSearch, IsLedOn, AreAtMost, height}
+use Rattle.ofit_flow.proofs.Searching.{Extends-refl, Extends-levelled, height_is, level_read, levelled_within, part_way_more}
 use Rattle.ofit_flow.proofs.levels.visit.Goals as goal
 
 pub loop-number-preserved : goal.loop-number-preserved
@@ -29,3 +29,28 @@ loop-number-init c = record {
   top = c.requires.top;
   led_on = λ i b. absurd (omega arith);
 }
+
+pub visit_edge-requires-clause-net : goal.visit_edge-requires-clause-net
+visit_edge-requires-clause-net c = subst (CanSearch c.args.edges.now c.args.amounts.now) (sym c.loop-number.invariant.extends.counted) c.requires.net
+
+pub visit_edge-requires-clause-levelled : goal.visit_edge-requires-clause-levelled
+visit_edge-requires-clause-levelled c =
+    Extends-levelled c.args.search.now.levels.items c.args.search.now.queue.items c.loop-number.search.levels.items c.loop-number.search.queue.items c.loop-number.invariant.extends c.args.node c.requires.levelled
+
+pub visit_edge-requires-clause-above : goal.visit_edge-requires-clause-above
+visit_edge-requires-clause-above c =
+    let levels = c.args.search.now.levels.items in
+    let found = level_read levels c.args.node c.index.result.now (levelled_within levels c.args.node c.requires.levelled) c.index.ensures ∙ c.in-Some.is in
+    omega (arith, height_is c.loop-number.search.levels.items c.args.node c.in-Some.level (c.loop-number.invariant.extends.kept c.args.node c.in-Some.level found))
+
+pub visit_edge-requires-clause-top : goal.visit_edge-requires-clause-top
+visit_edge-requires-clause-top c = λ node.
+    let levels = c.args.search.now.levels.items in
+    let found = level_read levels c.args.node c.index.result.now (levelled_within levels c.args.node c.requires.levelled) c.index.ensures ∙ c.in-Some.is in
+    omega (arith, height_is levels c.args.node c.in-Some.level found, c.loop-number.invariant.top node)
+
+pub visit_edge-requires-clause-numbered : goal.visit_edge-requires-clause-numbered
+visit_edge-requires-clause-numbered c = c.requires.numbered c.loop-number.number-index 0 (omega arith)
+
+pub visit_edge-requires-clause-touches : goal.visit_edge-requires-clause-touches
+visit_edge-requires-clause-touches c = c.requires.touches c.loop-number.number-index 0 (omega arith)

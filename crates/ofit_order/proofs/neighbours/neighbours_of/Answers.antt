@@ -4,6 +4,12 @@ use Rattle.ofit_order.proofs.Linking.{AreNeighbours-more, length-rows_of}
 use Rattle.ofit_order.specs.Rows.{rows_of}
 use Rattle.ofit_order.proofs.neighbours.neighbours_of.Goals as goal
 
+pub put-requires-in-loop-low : goal.put-requires-in-loop-low
+put-requires-in-loop-low c =
+    let ends = c.requires c.loop-low.low-index (0, 0) c.loop-low-test.true in
+    let counted = simp (length-map, length-set) at (ap length c.in_ok-put.ensures) in
+    omega (arith, ends.1, counted, c.loop-low.invariant.counted)
+
 pub loop-low-preserved : goal.loop-low-preserved
 loop-low-preserved c =
     let e = c.in_ok-put.ensures in

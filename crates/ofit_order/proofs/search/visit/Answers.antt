@@ -1,5 +1,6 @@
-use Rattle.std.proofs.Common.{◌≡◌, ◌<◌, ℕ, Bool, true, false, [], ◌∷◌, ◌++◌, set, get_or, length, slice_index, arith, ap, sym, ◌∙◌, Vec, Global}
-use Rattle.std.proofs.lemmas.List.{take_more, get_or_read}
+use Rattle.std.proofs.Common.{◌≡◌, ◌<◌, ℕ, Bool, true, false, [], ◌∷◌, ◌++◌, set, get_or, length, slice_index, arith, ap, sym, subst, ◌∙◌, List, Vec, Global}
+use Rattle.std.proofs.lemmas.List.{take_all, take_more, get_or_read}
+use Rattle.ofit_order.specs.Search.{Visits}
 use Rattle.ofit_order.proofs.Seeing.{Visits-new, Visits-seen}
 use Rattle.ofit_order.proofs.search.visit.Goals as goal
 use Rattle.ofit_order.proofs.search.visit.Goals.{then-not-index+in_ok-push, else-not-index}
@@ -27,3 +28,8 @@ loop-place-preserved c =
           rw (take_more c.args.neighbours.now at 0 lt, seen_is, found_is)
           (Visits-seen _ c.args.found.now.items c.loop-place.found.items c.args.seen.now.items c.loop-place.seen.items place c.loop-place.invariant seen_here)
     ]
+
+pub returns : goal.returns
+returns c =
+    subst (λ (ns : List ℕ). Visits ns c.args.found.now.items c.loop-place.found.items c.args.seen.now.items c.loop-place.seen.items)
+    (take_all c.loop-place.place-index c.args.neighbours.now (omega (arith, c.loop-place-test.false))) c.loop-place.invariant

@@ -1,13 +1,27 @@
-use Rattle.std.proofs.Common.{ℕ, subst, arith, List}
+use Rattle.std.proofs.Common.{ℕ, ◌<◌, sym, subst, ◌∙◌, arith, List, length}
+use Rattle.std.specs.Prelude.{All}
 use Rattle.ofit_tree.specs.declared.slot.Slot.{Slot}
 use Rattle.ofit_tree.specs.Forest.{IsCurrent, IsOutdated, IsOpenAbove, IsNoneAbove}
 use Rattle.ofit_tree.proofs.Steps.{step_passes, entry_inside, top_inside, step_settles, settles_count}
 use Rattle.ofit_tree.proofs.forest.take_up.Goals as goal
 
+pub current-requires : goal.current-requires
+current-requires g c = subst (λ (xs : List (Slot g.row.L-Pool.Denot)). c.args.entry.now.block < length xs) (sym c.deref.ensures.value)
+    (entry_inside c.args.tree.direction g.L.Loss.IsPoolOf g.L.Loss.meaning g.L.Loss.STRICT g.met.L.Loss.laws c.args.tree.groups.now c.args.tree.parents.now c.requires.tree c.args.forest.now.labels.items c.args.forest.now.slots.items c.args.entry.now _ c.requires.forest)
+
 pub returns-in_default-clause-forest : goal.returns-in_default-clause-forest
 returns-in_default-clause-forest g c =
     step_passes c.args.tree.direction g.L.Loss.IsPoolOf g.L.Loss.meaning g.L.Loss.STRICT g.met.L.Loss.laws c.args.tree.groups.now c.args.tree.parents.now c.requires.tree c.args.forest.now.labels.items c.args.forest.now.slots.items c.args.entry.now _ c.requires.forest
     (subst (λ (xs : List (Slot g.row.L-Pool.Denot)). IsOutdated c.args.tree.direction xs c.args.entry.now) c.deref.ensures.value c.in_default.ensures.none)
+
+pub open_above-requires-clause-parents : goal.open_above-requires-clause-parents
+open_above-requires-clause-parents g c = λ i p up. subst (λ (xs : List ℕ). p < length xs) (sym c.deref-2.ensures.value)
+    (subst (λ (n : ℕ). p < n) (c.requires.tree.one_each ∙ sym c.requires.forest.labels_count) (c.requires.tree.rooted.places i p up))
+
+pub open_above-requires-clause-labels : goal.open_above-requires-clause-labels
+open_above-requires-clause-labels g c = subst (λ (xs : List ℕ). All (λ k. k < length c.deref-3.result.now) xs) (sym c.deref-2.ensures.value)
+    (subst (λ (xs : List (Slot g.row.L-Pool.Denot)). All (λ k. k < length xs) c.args.forest.now.labels.items) (sym c.deref-3.ensures.value)
+    (subst (λ (n : ℕ). All (λ k. k < n) c.args.forest.now.labels.items) (sym c.requires.forest.slots_count) c.requires.forest.numbers))
 
 pub open_above-requires-clause-place : goal.open_above-requires-clause-place
 open_above-requires-clause-place g c =

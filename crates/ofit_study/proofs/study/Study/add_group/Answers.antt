@@ -1,8 +1,9 @@
-use Rattle.std.proofs.Common.{◌≡◌, ◌≢◌, ℕ, List, ap, ◌∙◌, sym, subst, All}
+use Rattle.std.proofs.Common.{◌≡◌, ◌≢◌, ℕ, List, ap, ◌∙◌, sym, subst, All, arith, length}
 use Rattle.ofit_study.specs.declared.entry.Entry.{Entry}
 use Rattle.ofit_study.specs.Study.{Study, IsValid, names_of}
 use Rattle.ofit_study.specs.Kept.{made_of}
 use Rattle.ofit_study.specs.Added.{observation, with_row}
+use Rattle.ofit_study.proofs.Popping.{popped}
 use Rattle.ofit_study.proofs.Pushing.{kept-push_new, made-push_new}
 use Rattle.ofit_study.proofs.study.Study.add_group.Goals as goal
 
@@ -30,3 +31,14 @@ returns-in-Ok-clause-ok c =
     rw (c.in_ok-push.ensures.items, c.in-Ok.ensures.ok)
     (made-push_new i.settings i.names i.entries.items i.groups i.pairs i.weight k c.args.name.now e new c.count-place.ensures valid
     ∙ ap (λ (s : Study). with_row s (observation c.args.name.now c.args.row)) c.self.view_is)
+
+pub invariant_of-self-in-Err : goal.invariant_of-self-in-Err
+invariant_of-self-in-Err c =
+    rw (c.pop.ensures.rest ∙ popped c.self.inside.entries.items _ c.push.new.self.items _ c.in_ok-push.ensures.items (omega (arith, c.in_ok-push.ensures.len)), c.in-Err.ensures.err) c.self.invariant
+
+pub returns-in-Err-clause-err : goal.returns-in-Err-clause-err
+returns-in-Err-clause-err c =
+    rw (c.pop.ensures.rest ∙ popped c.self.inside.entries.items _ c.push.new.self.items _ c.in_ok-push.ensures.items (omega (arith, c.in_ok-push.ensures.len))) c.self.view_is
+
+pub add-requires-clause-room : goal.add-requires-clause-room
+add-requires-clause-room c = omega (arith, ap length c.self.invariant.names_are, c.self.invariant.valid.groups)
