@@ -14,6 +14,7 @@ use ofit_study::Study;
 use std::alloc::{AllocError, Global};
 
 /// The sheet of a study's fit, with flows that certify it.
+#[inline(never)]
 pub(crate) fn print_fit(
     alloc: Global,
     study: &Study,

@@ -17,7 +17,8 @@ use ofit_input::Ready;
 use ofit_num::Tally;
 use std::alloc::{AllocError, Global};
 
-/// Does a job whose files are read, up to its text.
+/// Does a job whose files are read, up to its text. Each kind of job has a frame of its own, so that a run's stack is
+/// that of its own job.
 pub(crate) fn do_job(alloc: Global, ready: Ready, tally: &mut Tally) -> Result<Printed, AllocError>
     requires fits { IsFitting ready }
     requires room { tally.old.fits ≤ 2 ^ 63 }

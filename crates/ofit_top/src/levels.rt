@@ -7,6 +7,7 @@ use ofit_levels::level_text;
 use std::alloc::{AllocError, Global};
 
 /// The level table for so many groups of equal weight.
+#[inline(never)]
 pub(crate) fn print_levels(alloc: Global, k: u32) -> Result<Printed, AllocError>
     requires least { 1 ≤ k }
     requires most { k ≤ 34 }

@@ -13,6 +13,7 @@ use ofit_study::Study;
 use std::alloc::{AllocError, Global};
 
 /// The report of a study's fit.
+#[inline(never)]
 pub(crate) fn print_report(
     alloc: Global,
     study: &Study,

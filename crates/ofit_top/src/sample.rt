@@ -14,6 +14,7 @@ use ofit_words::SampleJob;
 use std::alloc::{AllocError, Global};
 
 /// The summary of a made study.
+#[inline(never)]
 pub(crate) fn print_sample(
     alloc: Global,
     made: &SampleJob,

@@ -13,6 +13,7 @@ use ofit_study::Study;
 use std::alloc::{AllocError, Global};
 
 /// The text of a script whose edits start from a study.
+#[inline(never)]
 pub(crate) fn print_session(
     alloc: Global,
     study: Study,

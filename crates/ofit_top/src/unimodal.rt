@@ -11,6 +11,7 @@ use ofit_unimodal::{UnimodalFault, fit_unimodal};
 use std::alloc::{AllocError, Global};
 
 /// The peaked sheet of the fit of a study whose peak isn't known.
+#[inline(never)]
 pub(crate) fn print_unimodal(alloc: Global, study: &Study) -> Result<Printed, AllocError>
     requires few { length (names_of study.now) ≤ MOST_PEAK_GROUPS }
     requires no_lo { study.now.settings.lo ≡ None }

@@ -21,6 +21,7 @@ fn answer_of(verdict: Verdict) -> Answer
 }
 
 /// The verdict on a sheet of a study, as an answer and a line.
+#[inline(never)]
 pub(crate) fn print_verdict(
     alloc: Global,
     study: &Study,

@@ -22,6 +22,7 @@ fn answer_of(verdict: PeakVerdict) -> Answer
 }
 
 /// The verdict on a peaked sheet of a study, as an answer and a line.
+#[inline(never)]
 pub(crate) fn print_peak_verdict(
     alloc: Global,
     study: &Study,
