@@ -1,11 +1,12 @@
 -- What comparisons of whole numbers tell.
-use Rattle.std.proofs.Common.{◌≡◌, ℕ, ◌<◌, false, refl, subst, arith, Ordering}
+use Rattle.std.proofs.Common.{◌≡◌, ◌∙◌, ap, ℕ, ◌<◌, false, refl, subst, arith, Ordering, FitsSigned, to_z, of_z}
 use Rattle.std.specs.declared.cmp.Ordering.TheVariants.{Less, Equal, Greater}
-use Rattle.std.proofs.lemmas.Int.{ints}
+use Rattle.std.proofs.lemmas.Int.{ints, to_z-of_z}
 use Rattle.std.proofs.lemmas.Cmp.{ranked, int_ranked}
 use Rattle.std.specs.Ordering.{nat_cmp, int_cmp, is_le, is_eq, is_lt, MatchOrdering}
 use lib.Signed.{le_z}
-use Rattle.std.specs.Prelude.{ℤ, ◌≤ℤ◌, ◌<ℤ◌, ◌↔◌, IsTrue}
+use Rattle.std.specs.Int.{w64, w128}
+use Rattle.std.specs.Prelude.{ℤ, ◌≤ℤ◌, ◌<ℤ◌, ◌*ℤ◌, ◌↔◌, IsTrue}
 
 at_most_by : (x y : ℤ) (o : Ordering) → MatchOrdering o (x <ℤ y) (x ≡ y) (y <ℤ x) → IsTrue (is_le o) ↔ (x ≤ℤ y)
 at_most_by x y Less h = (λ t. omega (arith, ints, h), λ t. refl)
@@ -39,3 +40,11 @@ tested_above x y e = grind (arith, ints)
 
 pub tested_as : (x y a b : ℤ) → x ≡ a → y ≡ b → IsTrue (le_z x y) ↔ (a ≤ℤ b)
 tested_as x y a b e f = subst (λ (z : ℤ). IsTrue (le_z x y) ↔ (z ≤ℤ b)) e (subst (λ (z : ℤ). IsTrue (le_z x y) ↔ (x ≤ℤ z)) f (tested x y))
+
+-- what is told of numbers is told of what two calls read of them
+pub tested_so : (x y a b : ℤ) (P : Type 0) → x ≡ a → y ≡ b → (a ≤ℤ b) ↔ P → IsTrue (le_z x y) ↔ P
+tested_so x y a b P e f h = let same = tested_as x y a b e f in (λ t. h.0 (same.0 t), λ p. same.1 (h.1 p))
+
+-- what a call reads of a bound over a denominator
+pub over_read : (bound den over : ℤ) → FitsSigned w64 bound → FitsSigned w128 over → over ≡ to_z w64 (of_z w64 bound) *ℤ den → to_z w128 (of_z w128 over) ≡ bound *ℤ den
+over_read bound den over fits fits_over e = to_z-of_z w128 over fits_over ∙ e ∙ ap (λ (z : ℤ). z *ℤ den) (to_z-of_z w64 bound fits)

@@ -17,38 +17,54 @@ module _ (s : Study) (x : Sheet Settings) where
   pub values_so : (n : ℕ) → n ≡ length (names_of s) → IsValid s → FitsCount (length (names_of s)) x → AllBelow (HasValue x) n → HasValues s x
   values_so n e valid fits h = record { valid = valid; fits = fits; complete = subst (AllBelow (HasValue x)) e h }
 
-  pub complete_so : (n : ℕ) → n ≡ length (names_of s) → AgreesInSettings s.settings x → AgreesInSize (problem_stated s) x → AllBelow (HasValue x) n → IsComplete (problem_stated s) s.settings x
-  complete_so n e settings size h = record { sized = record { settings = settings; size = size }; complete = each_group s (HasValue x) n e h }
+  module _ (n : ℕ) (count : n ≡ length (names_of s)) (settings : AgreesInSettings s.settings x) (size : AgreesInSize (problem_stated s) x) where
+    pub missing_told : (g : ℕ) → FailsFirst (HasValue x) n g → Told (verdict.group_missing g)
+    missing_told g f = (record { settings = settings; size = size }, subst (λ (m : ℕ). FailsFirst (HasValue x) m g) (count ∙ sym (group_count s)) f)
 
-  pub obedient_so : IsComplete (problem_stated s) s.settings x → AllBelow (RisesAlong (problem_stated s) x) (length s.pairs) → IsObedient (problem_stated s) s.settings x
-  obedient_so a h = record { complete = a; rises = each_pair s (RisesAlong (problem_stated s) x) h }
+    module _ (values : AllBelow (HasValue x) n) where
+      complete : IsComplete (problem_stated s) s.settings x
+      complete = record { sized = record { settings = settings; size = size }; complete = each_group s (HasValue x) n count values }
 
-  pub within_so : IsObedient (problem_stated s) s.settings x → AllBelow (IsInBounds (problem_stated s) x) (length (names_of s)) → IsWithinBounds (problem_stated s) s.settings x
-  within_so a h = record { obedient = a; within = each_group s (IsInBounds (problem_stated s) x) (length (names_of s)) refl h }
+      pub disobeys_told : (i : ℕ) → FailsFirst (RisesAlong (problem_stated s) x) (length s.pairs) i → Told (verdict.disobeys i)
+      disobeys_told i f = (complete, subst (λ (m : ℕ). FailsFirst (RisesAlong (problem_stated s) x) m i) (sym (pair_count s)) f)
 
-  pub passes_so : FlowsAreTight (problem_stated s) s.settings x → AllBelow (IsBalanced (meaning_of s.settings.loss) (problem_stated s) x) (length (names_of s)) → Passes (meaning_of s.settings.loss) (problem_stated s) s.settings x
-  passes_so a h = record { tight = a; balances = each_group s (IsBalanced (meaning_of s.settings.loss) (problem_stated s) x) (length (names_of s)) refl h }
+      module _ (rises : AllBelow (RisesAlong (problem_stated s) x) (length s.pairs)) where
+        obedient : IsObedient (problem_stated s) s.settings x
+        obedient = record { complete = complete; rises = each_pair s (RisesAlong (problem_stated s) x) rises }
 
-  pub missing_told : (n g : ℕ) → n ≡ length (names_of s) → AgreesInSettings s.settings x → AgreesInSize (problem_stated s) x → FailsFirst (HasValue x) n g → Told (verdict.group_missing g)
-  missing_told n g e settings size f = (record { settings = settings; size = size }, subst (λ (m : ℕ). FailsFirst (HasValue x) m g) (e ∙ sym (group_count s)) f)
+        pub bounds_told : (g : ℕ) → FailsFirst (IsInBounds (problem_stated s) x) (length (names_of s)) g → Told (verdict.out_of_bounds g)
+        bounds_told g f = (obedient, subst (λ (m : ℕ). FailsFirst (IsInBounds (problem_stated s) x) m g) (sym (group_count s)) f)
 
-  pub disobeys_told : (i : ℕ) → IsComplete (problem_stated s) s.settings x → FailsFirst (RisesAlong (problem_stated s) x) (length s.pairs) i → Told (verdict.disobeys i)
-  disobeys_told i a f = (a, subst (λ (m : ℕ). FailsFirst (RisesAlong (problem_stated s) x) m i) (sym (pair_count s)) f)
+        module _ (within : AllBelow (IsInBounds (problem_stated s) x) (length (names_of s))) where
+          within_bounds : IsWithinBounds (problem_stated s) s.settings x
+          within_bounds = record { obedient = obedient; within = each_group s (IsInBounds (problem_stated s) x) (length (names_of s)) refl within }
 
-  pub bounds_told : (g : ℕ) → IsObedient (problem_stated s) s.settings x → FailsFirst (IsInBounds (problem_stated s) x) (length (names_of s)) g → Told (verdict.out_of_bounds g)
-  bounds_told g a f = (a, subst (λ (m : ℕ). FailsFirst (IsInBounds (problem_stated s) x) m g) (sym (group_count s)) f)
+          pub off_pairs_told : (number : ℕ) → FailsFirstAt (IsOnPair (problem_stated s) x) (length x.flows) number → Told (verdict.flow_not_pair number)
+          off_pairs_told zero f = f
+          off_pairs_told (suc i) f = (within_bounds, f)
 
-  pub off_pairs_told : (number : ℕ) → IsWithinBounds (problem_stated s) s.settings x → FailsFirstAt (IsOnPair (problem_stated s) x) (length x.flows) number → Told (verdict.flow_not_pair number)
-  off_pairs_told zero a f = f
-  off_pairs_told (suc i) a f = (a, f)
+          module _ (on_pairs : AllBelow (IsOnPair (problem_stated s) x) (length x.flows)) where
+            flows_on_pairs : FlowsOnPairs (problem_stated s) s.settings x
+            flows_on_pairs = record { within_bounds = within_bounds; on_pairs = on_pairs }
 
-  pub order_told : (number : ℕ) → FlowsOnPairs (problem_stated s) s.settings x → FailsFirstAt (IsInOrder (problem_stated s) x) (length x.flows) number → Told (verdict.flow_order number)
-  order_told zero a f = f
-  order_told (suc i) a f = (a, f)
+            pub order_told : (number : ℕ) → FailsFirstAt (IsInOrder (problem_stated s) x) (length x.flows) number → Told (verdict.flow_order number)
+            order_told zero f = f
+            order_told (suc i) f = (flows_on_pairs, f)
 
-  pub loose_told : (number : ℕ) → FlowsInOrder (problem_stated s) s.settings x → FailsFirstAt (JoinsEqual x) (length x.flows) number → Told (verdict.flow_not_tight number)
-  loose_told zero a f = f
-  loose_told (suc i) a f = (a, f)
+            module _ (in_order : AllBelow (IsInOrder (problem_stated s) x) (length x.flows)) where
+              flows_in_order : FlowsInOrder (problem_stated s) s.settings x
+              flows_in_order = record { on_pairs = flows_on_pairs; in_order = in_order }
 
-  pub balance_told : (g : ℕ) → FlowsAreTight (problem_stated s) s.settings x → FailsFirst (IsBalanced (meaning_of s.settings.loss) (problem_stated s) x) (length (names_of s)) g → Told (verdict.balance_outside g)
-  balance_told g a f = (a, subst (λ (m : ℕ). FailsFirst (IsBalanced (meaning_of s.settings.loss) (problem_stated s) x) m g) (sym (group_count s)) f)
+              pub loose_told : (number : ℕ) → FailsFirstAt (JoinsEqual x) (length x.flows) number → Told (verdict.flow_not_tight number)
+              loose_told zero f = f
+              loose_told (suc i) f = (flows_in_order, f)
+
+              module _ (tight : AllBelow (JoinsEqual x) (length x.flows)) where
+                flows_are_tight : FlowsAreTight (problem_stated s) s.settings x
+                flows_are_tight = record { in_order = flows_in_order; tight = tight }
+
+                pub unbalanced_told : (g : ℕ) → FailsFirst (IsBalanced (meaning_of s.settings.loss) (problem_stated s) x) (length (names_of s)) g → Told (verdict.balance_outside g)
+                unbalanced_told g f = (flows_are_tight, subst (λ (m : ℕ). FailsFirst (IsBalanced (meaning_of s.settings.loss) (problem_stated s) x) m g) (sym (group_count s)) f)
+
+                pub passes_so : AllBelow (IsBalanced (meaning_of s.settings.loss) (problem_stated s) x) (length (names_of s)) → Passes (meaning_of s.settings.loss) (problem_stated s) s.settings x
+                passes_so balances = record { tight = flows_are_tight; balances = each_group s (IsBalanced (meaning_of s.settings.loss) (problem_stated s) x) (length (names_of s)) refl balances }

@@ -7,7 +7,6 @@ use Rattle.ofit_num.specs.Fit.{NoDearer}
 use Rattle.ofit_sheet.specs.Peaked.{Peaked}
 use Rattle.ofit_sheet.specs.Unimodal.{IsUnimodal, whole_trial}
 use Rattle.ofit_sheet.specs.PeakVerdict as sheet
-use Rattle.ofit_check.specs.declared.peak.slope.Slope.TheVariants.{Rise, Fall}
 use Rattle.ofit_check.specs.declared.peak.verdict.PeakVerdict.{PeakVerdict}
 use Rattle.ofit_check.specs.declared.peak.verdict.PeakVerdict.TheVariants as it
 

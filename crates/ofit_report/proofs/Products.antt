@@ -1,5 +1,5 @@
 -- Products and fractions of numbers that are known by equations.
-use Rattle.std.proofs.Common.{◌≡◌, ℕ, ◌*◌, ◌^◌, ◌≤◌, ap, sym, ◌∙◌, arith, to_z, of_z}
+use Rattle.std.proofs.Common.{◌≡◌, refl, ℕ, ◌*◌, ◌^◌, ◌≤◌, ap, sym, ◌∙◌, arith, to_z, of_z}
 use Rattle.std.proofs.lemmas.Nat.{mul-le}
 use Rattle.std.proofs.lemmas.Int.{ints, to_z-of_z}
 use Rattle.std.specs.Int.{w128}
@@ -34,3 +34,11 @@ plus_is r a b x y e ea eb = e ∙ ap (λ (t : ℤ). t +ℤ b) ea ∙ ap (λ (t :
 
 pub minus_is : (r a b x y : ℤ) → r ≡ a -ℤ b → a ≡ x → b ≡ y → r ≡ x -ℤ y
 minus_is r a b x y e ea eb = e ∙ ap (λ (t : ℤ). t -ℤ b) ea ∙ ap (λ (t : ℤ). x -ℤ t) eb
+
+-- a number of bounded size times a weight
+module _ (a r : ℤ) (w most : ℕ) (size : unsigned_abs a ≤ most) (weight : w ≤ 10 ^ 10) (fits : most * 10 ^ 10 ≤ 10 ^ 38) where
+  pub weighted_fits : unsigned_abs r ≡ unsigned_abs a * w → unsigned_abs r ≤ 10 ^ 38
+  weighted_fits e = omega (arith, e, at_most (unsigned_abs a) w most (10 ^ 10) (10 ^ 38) size weight fits)
+
+  pub weighted_size : unsigned_abs r ≡ unsigned_abs a * w → unsigned_abs (to_z w128 (of_z w128 r)) ≤ most * w
+  weighted_size e = omega (arith, e, ap unsigned_abs (read_as r r (weighted_fits e) refl), mul-le (unsigned_abs a) w most w size (omega arith))

@@ -5,7 +5,7 @@ mod plain;
 use ofit_fit::fit_study;
 use ofit_num::Tally;
 use ofit_study::{LossKind, Settings, Study, is_name};
-use plain::{are_means, are_medians};
+use plain::are_found;
 use std::alloc::Global;
 use std::test::Fail;
 
@@ -113,10 +113,7 @@ fn are_searched(
         return Err(Fail::from("too many fits"));
     }
     let values = fit_study(alloc, study, tally)?;
-    Ok(match study.settings().loss {
-        LossKind::Squares => are_means(&values, count, rows, pairs),
-        LossKind::Median => are_medians(&values, count, rows, pairs),
-    })
+    Ok(are_found(study.settings().loss, &values, count, rows, pairs))
 }
 
 /// Whether rows that are drawn, with these pairs, are fitted as a search fits them.

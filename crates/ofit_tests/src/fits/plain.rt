@@ -2,6 +2,7 @@
 
 use super::Weighed;
 use ofit_num::Frac;
+use ofit_study::LossKind;
 
 /// Whether the set, one bit a place, has the place.
 fn has(set: u32, place: u32) -> bool {
@@ -69,24 +70,6 @@ fn mean_at(count: u32, rows: &[Weighed], pairs: &[(u32, u32)], place: u32) -> (i
     greatest
 }
 
-/// Whether the values are those of the formula.
-pub(crate) fn are_means(
-    values: &[Frac],
-    count: u32,
-    rows: &[Weighed],
-    pairs: &[(u32, u32)],
-) -> bool {
-    let mut place = 0u32;
-    for value in values {
-        let (sum, weights) = mean_at(count, rows, pairs, place);
-        if value.num().wrapping_mul(weights) != sum.wrapping_mul(value.den()) {
-            return false;
-        }
-        place = place.wrapping_add(1);
-    }
-    place == count
-}
-
 /// The value, from 0 to 4, that a code has for a place: its digit to the base 5.
 fn level_at(code: u32, place: u32) -> i64 {
     let mut rest = code;
@@ -130,8 +113,23 @@ fn median_at(count: u32, rows: &[Weighed], pairs: &[(u32, u32)], place: u32) -> 
     least
 }
 
-/// Whether the values are the least ones of all that have the least cost.
-pub(crate) fn are_medians(
+/// The value at a place, as a numerator and a denominator that need not be in lowest terms.
+fn value_at(
+    loss: LossKind,
+    count: u32,
+    rows: &[Weighed],
+    pairs: &[(u32, u32)],
+    place: u32,
+) -> (i128, i128) {
+    match loss {
+        LossKind::Squares => mean_at(count, rows, pairs, place),
+        LossKind::Median => (i128::from(median_at(count, rows, pairs, place)), 1),
+    }
+}
+
+/// Whether the values are those that the search finds.
+pub(crate) fn are_found(
+    loss: LossKind,
     values: &[Frac],
     count: u32,
     rows: &[Weighed],
@@ -139,8 +137,8 @@ pub(crate) fn are_medians(
 ) -> bool {
     let mut place = 0u32;
     for value in values {
-        let level = median_at(count, rows, pairs, place);
-        if value.num() != i128::from(level) || value.den() != 1 {
+        let (num, den) = value_at(loss, count, rows, pairs, place);
+        if value.num().wrapping_mul(den) != num.wrapping_mul(value.den()) {
             return false;
         }
         place = place.wrapping_add(1);

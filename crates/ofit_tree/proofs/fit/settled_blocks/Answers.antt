@@ -1,4 +1,4 @@
-use Rattle.std.proofs.Common.{sym, subst, ◌∙◌, List, length}
+use Rattle.std.proofs.Common.{◌≡◌, subst, List, length, rules}
 use Rattle.std.proofs.lemmas.List.{nil_from_length}
 use Rattle.std.specs.BinaryHeap.{heap_items}
 use Rattle.ofit_tree.specs.declared.entry.Entry.{Entry}
@@ -16,5 +16,6 @@ take_up-requires-clause-first g c = first_of_heap (length c.args.tree.groups.now
 
 pub returns : goal.returns
 returns g c =
+    let none : length (heap_items c.loop-entry.forest.queue) ≡ 0 = search rules in
     subst (λ (queue : List Entry). IsForest c.args.tree.direction g.L.Loss.IsPoolOf g.L.Loss.meaning g.L.Loss.STRICT c.args.tree.groups.now c.args.tree.parents.now c.loop-entry.forest.labels.items c.loop-entry.forest.slots.items queue)
-    (nil_from_length (heap_items c.loop-entry.forest.queue) (sym c.loop-entry.forest.queue.«data».ok.0 ∙ c.in_default.ensures.none)) c.loop-entry.invariant.1
+    (nil_from_length (heap_items c.loop-entry.forest.queue) none) c.loop-entry.invariant.1
