@@ -1,4 +1,5 @@
 pub mod Carried
+mod Carrying
 pub mod Refitting
 pub mod Touches
 pub mod Untouched
