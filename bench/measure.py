@@ -1,8 +1,9 @@
-"""What bench/session, bench/unimodal and bench/sample share: the program, calls with their seconds, peak memory and
-instructions, and numbers drawn by Knuth's linear congruential generator."""
+"""What the scripts that measure share: the program, calls with their seconds, peak memory and instructions, a Python
+with the libraries of others, and numbers drawn by Knuth's linear congruential generator."""
 
 import os
 import re
+import shutil
 import subprocess
 import sys
 import tempfile
@@ -28,7 +29,8 @@ def built(program):
     if program is None:
         print("proving and building, which may take minutes ..", flush=True)
         crate = ROOT / "crates" / "ofit"
-        subprocess.run(["rt", "run"], cwd=crate, check=True, stdout=subprocess.DEVNULL)
+        first = ["rt", "run", "--", "fit", ROOT / "examples" / "dose_response.csv", "places=0"]
+        subprocess.run(first, cwd=crate, check=True, stdout=subprocess.DEVNULL)
         program = crate / "out" / "ofit"
     return str(program.resolve())
 
@@ -43,8 +45,8 @@ def high_water(pid):
     return int(found.group(1)) if found else 0
 
 
-def call(command, cwd):
-    """What a command prints, its seconds and its peak memory; a status above 0 ends the measurement."""
+def call(command, cwd, statuses=(0,)):
+    """What a command prints, its seconds and its peak memory; any other status ends the measurement."""
     with tempfile.TemporaryFile() as out:
         begin = time.perf_counter()
         child = subprocess.Popen(command, cwd=cwd, stdout=out, stderr=subprocess.DEVNULL)
@@ -55,8 +57,8 @@ def call(command, cwd):
         seconds, status = time.perf_counter() - begin, ended[1]
         out.seek(0)
         text = out.read().decode()
-    if status != 0:
-        sys.exit(f"{' '.join(command[:2])} ended with status {os.waitstatus_to_exitcode(status)}")
+    if (code := os.waitstatus_to_exitcode(status)) not in statuses:
+        sys.exit(f"{' '.join(map(str, command[:2]))} ended with status {code}")
     return Call(text, seconds, peak / 1024)
 
 
@@ -68,3 +70,12 @@ def instructions(command, cwd):
     callgrind = ["valgrind", "--tool=callgrind", "--callgrind-out-file=/dev/null"]
     done = subprocess.run(callgrind + command, cwd=cwd, capture_output=True, text=True)
     return int(re.search(r"Collected\s*:\s*(\d+)", done.stderr).group(1))
+
+
+def python_with(*modules):
+    """The first python3, the system's own or one on the path, that has these modules, or None."""
+    for folder in ["/usr/bin", *os.environ.get("PATH", "").split(os.pathsep)]:
+        python = shutil.which("python3", path=folder)
+        if python and not subprocess.run([python, "-c", f"import {', '.join(modules)}"], stderr=subprocess.DEVNULL).returncode:
+            return python
+    return None
