@@ -1,4 +1,4 @@
-ghost use Rattle.std.specs.Prelude.{List};
+ghost use Rattle.std.specs.Prelude.{List, ℕ};
 ghost use Rattle.ofit_num.specs.Fit.{Best, BestValues};
 ghost use Rattle.ofit_num.specs.Flow.{Flow};
 ghost use Rattle.ofit_num.specs.Certificate.{Certifies};
@@ -8,6 +8,9 @@ ghost use Rattle.ofit_num.specs.Sheet.{Sheet, FitsCount, sheet_values};
 ghost use Rattle.ofit_num.specs.Trial.{Trial};
 ghost use Rattle.ofit_num.specs.Verdict.{Passes};
 ghost use Rattle.ofit_loss.specs.Laws.{HasFittableGroups};
+ghost use Rattle.ofit_sheet.specs.Peaked.{IsShaped, Peaked};
+ghost use Rattle.ofit_sheet.specs.PeakVerdict.{PeakPasses};
+ghost use Rattle.ofit_check.specs.Peak.{IsBestOfPeaks};
 ghost use Rattle.ofit_study.specs.declared.settings.Settings.{Settings};
 
 use ofit_loss::Loss;
@@ -19,4 +22,10 @@ pub fn passing_is_best<L: Loss>()
     ensures sheets { (s : Problem) (own : Settings) (x : Sheet Settings) → HasPlaces s → HasFittableGroups s → FitsCount s.count x
         → Passes L.meaning s own x → BestValues L.meaning s (sheet_values x) }
     ensures flows { (s : Problem) (t : Trial) (flows : List Flow) → HasFittableGroups s → Certifies L.meaning s t flows → Best L.meaning s t }
+{}
+
+/// A peaked sheet that passes is optimal, however many groups the study has: its values rise up to its
+/// peak and fall from it, and no values that do so with any peak cost less under the median.
+pub fn passing_peaked_is_best()
+    ensures { (s : Problem) (places : ℕ) (x : Peaked) → IsShaped s.count x → PeakPasses s places x → IsBestOfPeaks s x }
 {}

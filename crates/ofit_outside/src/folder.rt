@@ -3,17 +3,22 @@ ghost use Rattle.std.specs.FinMap.{get};
 ghost use Rattle.ofit_outside.specs.declared.folder.FetchFault.TheVariants.{Memory};
 
 use std::alloc::{AllocError, Global};
+use thiserror::Error;
 
 /// Why a fetch gave nothing.
-#[derive(Clone, Copy, Debug, PartialEq, Eq)]
+#[derive(Clone, Copy, Debug, PartialEq, Eq, Error)]
 pub enum FetchFault {
     /// The folder itself failed, and counted it.
+    #[error("the folder failed")]
     Failed,
     /// There is nothing under the name.
+    #[error("no such file")]
     Missing,
     /// There are more bytes under the name than were asked for.
+    #[error("file too long")]
     Long,
     /// Memory was wanting.
+    #[error("out of memory")]
     Memory,
 }
 

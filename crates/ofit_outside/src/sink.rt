@@ -2,10 +2,13 @@ ghost use Rattle.std.specs.Prelude.{◌≡◌, ℕ, ◌^◌, ◌<◌, ◌≤◌,
 ghost use Rattle.ofit_outside.specs.Faults.{Rose};
 ghost use Rattle.ofit_outside.specs.Sink.{with_more, GainsPrefix};
 
+use thiserror::Error;
+
 /// Why a piece wasn't put whole.
-#[derive(Clone, Copy, Debug, PartialEq, Eq)]
+#[derive(Clone, Copy, Debug, PartialEq, Eq, Error)]
 pub enum PutFault {
     /// The sink failed, and counted it.
+    #[error("the sink failed")]
     Failed,
 }
 

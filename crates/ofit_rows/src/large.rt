@@ -241,6 +241,35 @@ fn an_unknown_peak_is_fitted_up_to_200_groups(rt: HostRuntime) -> Result<(), Fai
     Ok(())
 }
 
+/// 10,000 rows in 200 groups, whose values go up and down.
+fn mixed_rows(alloc: Global) -> Result<Vec<u8>, AllocError> {
+    let mut table = Vec::from_slice(alloc, b"group,value\n")?;
+    for row in 0u32..10_000 {
+        let group = row % 200;
+        let value = row % 97;
+        let line = format!(in alloc; "g{group},{value}\n")?;
+        table.extend_from_slice(line.as_bytes())?;
+    }
+    Ok(table)
+}
+
+#[test]
+fn an_unknown_peak_of_10000_rows_is_verified(rt: HostRuntime) -> Result<(), Fail> {
+    let table = mixed_rows(rt.alloc())?;
+    let mut desk = desk_with(rt.alloc(), table.as_slice())?;
+    desk.room = 2_000_000;
+    assert_eq!(rt;
+        told(&rt, &mut desk, "unimodal d places=0")?.as_str(),
+        "0 0 0"
+    );
+    let sheet = Vec::from_slice(rt.alloc(), desk.out.as_slice())?;
+    desk.hold("p", sheet.as_slice())?;
+    let ended = told(&rt, &mut desk, "verify-unimodal d p places=0")?;
+    assert_eq!(rt; ended.as_str(), "0 0 0");
+    assert!(rt; desk.out.as_slice() == b"passes\n".as_slice());
+    Ok(())
+}
+
 /// Whether the line ends well twice, with the same text.
 fn is_told_twice(rt: &HostRuntime, desk: &mut Desk, line: &str) -> Result<bool, AllocError> {
     let first = told(rt, desk, line)?;

@@ -23,6 +23,57 @@ step,A,1,0
 -- keep p
 -- run 0 0 0 verify-unimodal d p places=0
 passes
+-- file p
+ofit-peaked,1,median,0
+peak,D,3,-
+value,A,1,-
+value,B,2,-
+value,C,2,-
+value,D,5,-
+value,E,3,-
+rise,1,-,-
+step,A,1,0
+rise,2,-,-
+step,A,1,0
+step,B,4,0
+rise,3,-,-
+step,A,1,0
+step,B,2,1
+step,C,2,0
+rise,4,-,-
+step,A,1,0
+step,B,2,1
+step,C,2,0
+step,D,5,0
+rise,5,-,-
+step,A,1,0
+step,B,2,1
+step,C,2,0
+step,D,3,1
+step,E,3,0
+fall,0,-,-
+step,A,3,1
+step,B,3,0
+step,C,3,1
+step,D,3,0
+step,E,3,0
+fall,1,-,-
+step,B,4,0
+step,C,3,1
+step,D,3,0
+step,E,3,0
+fall,2,-,-
+step,C,3,1
+step,D,3,0
+step,E,3,0
+fall,3,-,-
+step,D,5,0
+step,E,3,0
+fall,4,-,-
+step,E,3,0
+end,-,-,-
+-- run 1 0 0 verify-unimodal d p places=0
+fails cost
 -- case one group
 -- file d
 group,value

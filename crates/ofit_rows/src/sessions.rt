@@ -50,6 +50,7 @@ end,-,-,-
 group,value
 A,1
 -- file s
+-- failing-put 1
 -- run 0 1 0 session d s
 -- case a value and a weight
 -- file d

@@ -1,17 +1,25 @@
+use thiserror::Error;
+
 /// Why bytes give no sheet. A number is that of the record, counted from 1.
-#[derive(Clone, Copy, Debug, PartialEq, Eq)]
+#[derive(Clone, Copy, Debug, PartialEq, Eq, Error)]
 pub enum SheetFault {
     /// Record 1 isn't there or isn't a header.
+    #[error("bad header")]
     BadHeader,
     /// The record breaks a rule of the format.
+    #[error("record {0}: bad record")]
     BadRecord(u32),
     /// A number in the record passes its limit.
+    #[error("record {0}: number too large")]
     NumberTooLarge(u32),
     /// No end record stands.
+    #[error("no end")]
     NoEnd,
     /// An end record stands before the record.
+    #[error("record {0}: record after the end")]
     AfterEnd(u32),
     /// There was no memory.
+    #[error("out of memory")]
     Memory,
 }
 

@@ -6,7 +6,7 @@ use ofit_num::{Frac, Row};
 use std::alloc::{AllocError, Global};
 use std::test::Fail;
 
-fn row(value: i64, weight: u64) -> Row
+pub(crate) fn row(value: i64, weight: u64) -> Row
     ensures { result ≡ record { number = 1; value = value; weight = weight } }
 {
     Row {

@@ -53,7 +53,7 @@ pub fn fits_are_verified()
 }
 
 /// Over a told folder, and without faults, a run ends in one way: words and files determine its answer
-/// and its count of fits, and its text too, but for the flows of the sheets in it.
+/// and its count of fits, and its text too, where the job prints no flows.
 pub fn runs_end_in_one_way()
     ensures answer { (words : List (List ℕ)) (h : Held) (a b : Answered) (t u : List ℕ) (n m : ℕ)
         → RunGives words (Some h) a t n → RunGives words (Some h) b u m → a ≡ b }
