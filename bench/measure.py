@@ -24,6 +24,14 @@ class Generator:
         return (self.state >> 33) % bound
 
 
+def kept(parser, program):
+    """The program that is named, or else the one that `rt run` or `rt ci` left; the script ends where it isn't there."""
+    program = (program or ROOT / "crates" / "ofit" / "out" / "ofit").resolve()
+    if not program.is_file():
+        parser.error(f"{program} isn't there: `rt run` in crates/ofit makes it")
+    return program
+
+
 def built(program):
     """The program that is named, or else the one that `rt run` proves and builds, which takes minutes."""
     if program is None:

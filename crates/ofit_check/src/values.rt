@@ -11,7 +11,7 @@ use ofit_num::Frac;
 use ofit_sheet::Sheet;
 use ofit_study::Study;
 
-/// Whether the value at this index is that of the place of this number.
+/// Whether the value at index `place` is that of this place.
 fn is_at_place(sheet: &Sheet, place: u32) -> bool
     ensures { IsTrue result ↔ IsAtPlace sheet.now place }
 {

@@ -5,8 +5,7 @@
 //! holds the low end of each pair whose high end it holds. Pairs with equal ends limit no set; pairs
 //! may stand more than once and close cycles.
 //!
-//! [`upper_cut`] and [`lower_cut`] find a set of the greatest sum of weights by one minimum cut,
-//! [`upper_extremes`] and [`lower_extremes`] the smallest and the largest of these by one as well.
+//! [`upper_cut`] and [`lower_cut`] find a set of the greatest sum of weights by one minimum cut.
 //! [`balance_flow`] finds flows along the pairs whose balance at each node lies in the node's span, or
 //! a set that shows that there are none: leaves are peeled in linear time, and one maximum flow runs
 //! along the pairs that are left, so that a forest takes none; a set against flows takes up to four.
@@ -19,7 +18,6 @@ mod balanced;
 mod balances;
 mod cut;
 mod edges;
-mod extremes;
 mod limits;
 mod members;
 mod peel;
@@ -35,7 +33,6 @@ pub use amounts::Amounts;
 pub use balance::balance_flow;
 pub use balanced::Balanced;
 pub use cut::{lower_cut, upper_cut};
-pub use extremes::{Extremes, lower_extremes, upper_extremes};
 pub use limits::{MAX_NODES, MAX_PAIRS};
 pub use members::Members;
 pub use span::Span;

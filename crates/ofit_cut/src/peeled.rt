@@ -1,4 +1,4 @@
-//! Flows within spans where the pairs form a forest.
+//! A checked guess at flows within spans: in linear time for a forest, else by one maximum flow.
 
 ghost use Rattle.std.specs.Prelude.{IfOk, IfSome, length};
 ghost use Rattle.ofit_cut.specs.Sets.{AreWithin};
@@ -9,8 +9,8 @@ use crate::peel::guess;
 use crate::span::Span;
 use std::alloc::{AllocError, Global};
 
-/// Flows within the spans, found in linear time where the pairs, seen without direction, form a
-/// forest and there are such flows; `None` where the guess fails.
+/// Flows within the spans, where the guess finds some; `None` where it fails. It takes linear time where the
+/// pairs, seen without direction, form a forest, and else one maximum flow.
 pub(crate) fn peeled(
     alloc: Global,
     pairs: &[(u32, u32)],

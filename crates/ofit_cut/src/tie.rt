@@ -1,9 +1,10 @@
 //! Which of several greatest sets is meant.
 
-/// Which of the sets with the greatest sum is asked for: the one that is inside all of them, or the
-/// one that has all of them inside.
+/// Which of the sets with the greatest sum is asked for.
 #[derive(Clone, Copy, Debug, PartialEq, Eq)]
 pub enum Tie {
+    /// The set that is inside all of them.
     Smallest,
+    /// The set that has all of them inside.
     Largest,
 }

@@ -1,7 +1,7 @@
 //! A guess at flows along the pairs that peeling leaves.
 //!
 //! Each node that still has pairs gives what its reach allows: its own balance with what its leaves
-//! give it. As for a whole study, a hub makes up the differences within the reaches. Nothing is
+//! give it. As for the whole net, a hub makes up the differences within the reaches. Nothing is
 //! promised of the amounts: [`peeled`](crate::peeled::peeled) checks them.
 
 ghost use Rattle.std.specs.Prelude.{◌≡◌, ◌+◌, ◌<◌, ◌^◌, length};

@@ -1,4 +1,4 @@
-//! A greatest flow by level graphs.
+//! A maximum flow by level graphs.
 
 ghost use Rattle.std.specs.Prelude.{◌≡◌, ◌≢◌, ◌<◌, ◌≤◌, ◌+◌, ◌^◌, IfOk, OnOk, All, None, length, replicate, pos};
 ghost use Rattle.ofit_flow.specs.Flow.{IsFlow, value_of};

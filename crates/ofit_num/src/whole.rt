@@ -86,8 +86,9 @@ fn whole_of(text: &[u8], limit: u128) -> Result<u128, WholeFault>
     }
 }
 
-/// The number that a canonical whole number spells: `0`, or a digit 1 to 9 followed by digits. Time
-/// linear in the text, however long.
+/// The number that a canonical whole number spells: `0`, or a digit 1 to 9 followed by digits. Any other
+/// text is [`WholeFault::NotWhole`]; a number past the limit is [`WholeFault::TooLarge`]. Time linear in the
+/// text, however long.
 pub fn read_whole(text: &[u8], limit: u128) -> Result<u128, WholeFault>
     ensures ok { IfOk result (λ n. IsWhole text.now n × (n ≤ limit)) }
     ensures not_whole { IsErrOf result WholeFault.NotWhole → (n : ℕ) → IsWhole text.now n → ⊥ }
@@ -127,7 +128,8 @@ fn signed_of(text: &[u8], limit: u128) -> Result<i128, WholeFault>
 }
 
 /// The number that a canonical signed number spells: a canonical whole number, or `-` followed by
-/// one that isn't `0`. The limit is on its absolute value. Time linear in the text.
+/// one that isn't `0`. The limit is on its absolute value. The faults are those of [`read_whole`]. Time
+/// linear in the text.
 pub fn read_signed(text: &[u8], limit: u128) -> Result<i128, WholeFault>
     requires { limit ≤ 10 ^ 38 }
     ensures ok { IfOk result (λ z. IsSigned text.now z × (unsigned_abs z ≤ limit)) }

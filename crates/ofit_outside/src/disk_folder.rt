@@ -28,13 +28,14 @@ impl<'a, R> Model for DiskFolder<'a, R> {
 }
 
 impl<'a, R: Files> DiskFolder<'a, R> {
+    /// The folder that the program runs in, without a failure so far.
     pub fn new(rt: &'a R) -> Self
         ensures { result ≡ 0 }
     {
         DiskFolder { rt, faults: 0 }
     }
 
-    // Counts an error.
+    /// Counts an error.
     fn failed(&mut self) -> FetchFault
         ensures fault { result ≡ FetchFault.Failed }
         ensures counted { self.new ≡ risen self.old }

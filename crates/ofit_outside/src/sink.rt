@@ -22,6 +22,7 @@ pub trait Sink {
     /// How often the sink has failed; at 2^64 - 1 it stays there.
     ghost faults: { Self → ℕ };
 
+    /// Puts all the bytes behind those before. [`PutFault::Failed`] leaves a first part of them written, or none.
     /// Takes no memory.
     fn put(&mut self, bytes: &[u8]) -> Result<(), PutFault>
         ensures ok { OnOk result (written self.new ≡ with_more (written self.old) bytes.now) }

@@ -28,13 +28,14 @@ impl<W: Write + Drop> Model for StdSink<W> {
 }
 
 impl<W: Write + Drop> StdSink<W> {
+    /// The sink of a writer, without a failure so far.
     pub fn new(writer: W) -> StdSink<W>
         ensures { result ≡ record { contents = W.contents writer; faults = 0 } }
     {
         StdSink { writer, faults: 0 }
     }
 
-    // Counts an error.
+    /// Counts an error.
     fn failed(&mut self) -> PutFault
         ensures counted { self.new ≡ record self.old { faults = risen self.old.faults } }
         ensures never_falls { self.old.faults ≤ self.new.faults }

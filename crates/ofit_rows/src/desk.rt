@@ -82,10 +82,18 @@ fn bytes_of(alloc: Global, body: &str) -> Result<Vec<u8>, AllocError> {
     Ok(bytes)
 }
 
-fn number_of(text: &str) -> u64 {
-    match read_whole(text.as_bytes(), 200_000) {
-        Ok(number) => number as u64,
-        Err(_) => 0,
+/// The number of a section, which has to be one.
+fn number_of<R: Abort>(rt: &R, text: &str) -> u64 {
+    let number = read_whole(text.as_bytes(), 200_000);
+    assert!(rt; number.is_ok(), "no number: {text}");
+    number.unwrap_or(0) as u64
+}
+
+/// Whether the line begins with what was told, and its words or nothing stand behind it.
+fn is_told(line: &str, told: &str) -> bool {
+    match line.strip_prefix(told) {
+        Some(rest) => rest.is_empty() || rest.starts_with(' '),
+        None => false,
     }
 }
 
@@ -118,7 +126,7 @@ fn run_line<R: Abort + Files>(
     let words = words_of(alloc, line)?;
     let told = desk.run(rt, alloc, words.as_slice())?;
     assert_eq!(rt; text_of(desk.out.as_slice()), text_of(wanted), "{line}");
-    assert!(rt; line.starts_with(told.as_str()), "{line} ended with {told}");
+    assert!(rt; is_told(line, told.as_str()), "{line} ended with {told}");
     Ok(())
 }
 
@@ -131,7 +139,7 @@ fn run_unseen<R: Abort + Files>(
 ) -> Result<(), Fail> {
     let words = words_of(alloc, line)?;
     let told = desk.run(rt, alloc, words.as_slice())?;
-    assert!(rt; line.starts_with(told.as_str()), "{line} ended with {told}");
+    assert!(rt; is_told(line, told.as_str()), "{line} ended with {told}");
     Ok(())
 }
 
@@ -161,7 +169,8 @@ fn err_line<R: Abort>(rt: &R, alloc: Global, desk: &Desk, body: &str) -> Result<
 }
 
 /// Sets the desk up, if the section says how.
-fn is_set_up(
+fn is_set_up<R: Abort>(
+    rt: &R,
     alloc: Global,
     desk: &mut Desk,
     kind: &str,
@@ -171,13 +180,13 @@ fn is_set_up(
     if kind == "case" {
         desk.begin(alloc, 0)?;
     } else if kind == "failing-fetch" {
-        desk.begin(alloc, number_of(rest))?;
+        desk.begin(alloc, number_of(rt, rest))?;
     } else if kind == "failing-put" {
-        desk.failing_put = number_of(rest);
+        desk.failing_put = number_of(rt, rest);
     } else if kind == "room" {
-        desk.room = number_of(rest);
+        desk.room = number_of(rt, rest);
     } else if kind == "err-room" {
-        desk.err_room = number_of(rest);
+        desk.err_room = number_of(rt, rest);
     } else if kind == "file" {
         desk.hold(rest, bytes_of(alloc, body)?.as_slice())?;
     } else if kind == "keep" {
@@ -225,7 +234,7 @@ fn take_section<R: Abort + Files>(
         Some(parts) => parts,
         None => (head, ""),
     };
-    if is_set_up(alloc, desk, kind, rest, body)? {
+    if is_set_up(rt, alloc, desk, kind, rest, body)? {
         return Ok(());
     }
     run_section(rt, alloc, desk, kind, rest, body)

@@ -2,18 +2,13 @@ use crate::desk::Desk;
 use std::alloc::{AllocError, Global};
 use std::test::Fail;
 
-/// A table of so many rows in so many groups, one after another.
+/// A table of so many rows, which go round so many groups.
 fn many_rows(alloc: Global, rows: u32, groups: u32) -> Result<Vec<u8>, AllocError> {
     let mut table = Vec::from_slice(alloc, b"group,value\n")?;
-    let mut group: u32 = 0;
-    for _ in 0..rows {
+    for row in 0..rows {
+        let group = row.checked_rem(groups).unwrap_or(0);
         let line = format!(in alloc; "g{group},{group}\n")?;
         table.extend_from_slice(line.as_bytes())?;
-        group = if group >= groups {
-            0
-        } else {
-            group.saturating_add(1)
-        };
     }
     Ok(table)
 }
@@ -77,7 +72,7 @@ fn limits_of_rows_and_groups_are_told(rt: HostRuntime) -> Result<(), Fail> {
     let message = "ofit: data record 2002: too many groups\n";
     assert!(rt; are_rows_refused(&rt, 2_001, 3_000, message)?);
     let message = "ofit: data record 100002: too many rows\n";
-    assert!(rt; are_rows_refused(&rt, 100_001, 1_999, message)?);
+    assert!(rt; are_rows_refused(&rt, 100_001, 2_000, message)?);
     Ok(())
 }
 
@@ -131,7 +126,7 @@ fn the_limit_of_pairs_is_told(rt: HostRuntime) -> Result<(), Fail> {
 
 #[test]
 fn the_greatest_table_is_fitted(rt: HostRuntime) -> Result<(), Fail> {
-    let table = many_rows(rt.alloc(), 100_000, 1_999)?;
+    let table = many_rows(rt.alloc(), 100_000, 2_000)?;
     let (told, _) = fit_of(&rt, table.as_slice(), 0)?;
     assert_eq!(rt; told.as_str(), "0 1 0");
     Ok(())

@@ -116,7 +116,13 @@ low,high
 A,B
 B,C
 C,A
--- any 0 1 1 fit d order=file:o places=0
+-- begins 0 1 1 fit d order=file:o places=0
+ofit-sheet,2,squares,0
+bounds,none,none,-
+size,3,3,-
+value,A,2,1
+value,B,2,1
+value,C,2,1
 -- keep s
 -- run 0 0 0 verify d s order=file:o places=0
 passes
@@ -191,7 +197,12 @@ flow,A,B,4
 end,-,-,-
 -- run 1 0 0 verify d s lo=2 places=0
 fails balance B
--- any 0 1 0 fit d lo=2 places=0
+-- begins 0 1 0 fit d lo=2 places=0
+ofit-sheet,2,squares,0
+bounds,2,none,-
+size,2,2,-
+value,A,2,1
+value,B,2,1
 -- keep s
 -- run 0 0 0 verify d s lo=2 places=0
 passes

@@ -173,10 +173,7 @@ peak,B,0,-
 group
 -- run 3 0 0 unimodal d
 -- err
-ofit: data: no column value
--- run 2 0 0 unimodal d loss=median
--- err
-ofit: unknown setting at word 2"#;
+ofit: data: no column value"#;
 
 const VERDICTS: &str = r#"
 -- case each verdict

@@ -51,9 +51,6 @@ level,32,151096,295232799039604140847618609643520000000
 level,33,561,295232799039604140847618609643520000000
 level,34,1,295232799039604140847618609643520000000
 end,-,-,-
--- run 2 0 0 levels 35
--- err
-ofit: level out of range
 -- case a sample
 -- run 0 1 0 sample seed=7 groups=3 rows=4 shape=chain
 ofit-sample,1,7,chain
@@ -62,10 +59,7 @@ parts,1,2,-
 least,599,1,-
 greatest,5580,7,-
 verdict,passes,-,-
-end,-,-,-
--- run 2 0 0 sample rows=99
--- err
-ofit: bad setting at word 1"#;
+end,-,-,-"#;
 
 #[test]
 fn tables_of_numbers_are_printed(rt: HostRuntime) -> Result<(), Fail> {

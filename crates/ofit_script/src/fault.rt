@@ -33,7 +33,7 @@ pub enum ScriptFault {
     /// The weight isn't a whole number from 1 to 10^10.
     #[error("record {0}: bad weight")]
     BadWeight(u32),
-    /// Memory ran out.
+    /// Memory was wanting.
     #[error("out of memory")]
     Memory,
 }

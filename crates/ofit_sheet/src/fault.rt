@@ -18,7 +18,7 @@ pub enum SheetFault {
     /// An end record stands before the record.
     #[error("record {0}: record after the end")]
     AfterEnd(u32),
-    /// There was no memory.
+    /// Memory was wanting.
     #[error("out of memory")]
     Memory,
 }

@@ -3,7 +3,7 @@ ghost use Rattle.ofit_sheet.specs.declared.peaked.limits.TheConstants.{MOST_PEAK
 ghost use Rattle.ofit_num.specs.RowTotals.{all_rows};
 ghost use Rattle.ofit_num.specs.Loss.{median};
 ghost use Rattle.ofit_num.specs.Pairs.{chain_pairs};
-ghost use Rattle.ofit_num.specs.Tight.{is_tight, tight_among};
+ghost use Rattle.ofit_num.specs.Tight.{tight_among};
 ghost use Rattle.ofit_loss.specs.Rows.{AreFittable};
 ghost use Rattle.ofit_cert.specs.OpenSpans.{AreOpenSpans, open_span};
 ghost use Rattle.ofit_cert.specs.TightFlows.{Certify, TellsOfGroups};
@@ -13,18 +13,8 @@ ghost use Rattle.ofit_sides.specs.FirstFit.{rows_at, first_chain, IsFirstFit, Ar
 use ofit_cut::{Amounts, Balanced, Span, balance_flow};
 use ofit_loss::{Loss, Median};
 use ofit_num::{Frac, Groups};
+use ofit_study::is_tight;
 use std::alloc::{AllocError, Global};
-
-/// Whether both ends of the pair have one value.
-fn is_tight(values: &[Frac], pair: (u32, u32)) -> bool
-    requires low { pair.0 < length values.now }
-    requires high { pair.1 < length values.now }
-    ensures { result ≡ is_tight values.now pair }
-{
-    let low = &values[pair.0 as usize];
-    let high = &values[pair.1 as usize];
-    low.compare(high).is_eq()
-}
 
 /// The neighbours in the chain that have one value.
 pub(crate) fn tight_neighbours(

@@ -3,7 +3,8 @@ use crate::name::Name;
 /// A change of a study.
 #[derive(Drop)]
 pub enum Edit {
-    /// A row more, in the group with the name, under the least number from 1 on that no row has.
+    /// A row more, its value in units, in the group with the name, under the least number from 1 on that no
+    /// row has.
     Add {
         group: Name,
         value: i64,
@@ -38,6 +39,8 @@ pub enum Edit {
 /// An end of a pair.
 #[derive(Clone, Copy, Debug, PartialEq, Eq)]
 pub enum End {
+    /// The group whose value is at most the other's.
     Low,
+    /// The group whose value is at least the other's.
     High,
 }

@@ -6,16 +6,16 @@ use thiserror::Error;
 #[derive(Clone, Copy, Debug, PartialEq, Eq, Error)]
 pub enum AddFault {
     /// 100,000 rows stand.
-    #[error("the study has 100,000 rows")]
+    #[error("too many rows")]
     TooManyRows,
     /// The total weight with this row passes 10^10.
-    #[error("the total weight would pass 10,000,000,000")]
+    #[error("total weight too large")]
     TooHeavy,
     /// The name is new and 2,000 groups stand.
-    #[error("the study has 2,000 groups")]
+    #[error("too many groups")]
     TooManyGroups,
-    /// Memory ran out.
-    #[error("memory ran out")]
+    /// Memory was wanting.
+    #[error("out of memory")]
     Memory,
 }
 
@@ -23,13 +23,13 @@ pub enum AddFault {
 #[derive(Clone, Copy, Debug, PartialEq, Eq, Error)]
 pub enum EditFault {
     /// 100,000 rows stand.
-    #[error("the study has 100,000 rows")]
+    #[error("too many rows")]
     TooManyRows,
     /// The total weight with the edit passes 10^10.
-    #[error("the total weight would pass 10,000,000,000")]
+    #[error("total weight too large")]
     TooHeavy,
     /// The name is new and 2,000 groups stand.
-    #[error("the study has 2,000 groups")]
+    #[error("too many groups")]
     TooManyGroups,
     /// No row has the number.
     #[error("no row has the number")]
@@ -47,10 +47,10 @@ pub enum EditFault {
     #[error("the pair doesn't stand")]
     PairAbsent,
     /// 20,000 pairs stand.
-    #[error("the study has 20,000 pairs")]
+    #[error("too many pairs")]
     TooManyPairs,
-    /// Memory ran out.
-    #[error("memory ran out")]
+    /// Memory was wanting.
+    #[error("out of memory")]
     Memory,
 }
 

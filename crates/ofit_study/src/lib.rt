@@ -37,4 +37,4 @@ pub use name::{Name, is_name};
 pub use pattern::Pattern;
 pub use settings::Settings;
 pub use study::{RowChange, Study};
-pub use tight::tight_pairs;
+pub use tight::{is_tight, tight_pairs};

@@ -1,6 +1,6 @@
-ghost use Rattle.std.specs.Prelude.{◌≡◌, ◌↔◌, IsTrue, MatchOption};
+ghost use Rattle.std.specs.Prelude.{◌≡◌, MatchOption};
 ghost use Rattle.ofit_study.specs.declared.loss.LossKind.{LossKind as TheLoss};
-ghost use Rattle.ofit_study.specs.Loss.{IsListed, IsListedLoss, loss_text};
+ghost use Rattle.ofit_study.specs.Loss.{IsListedLoss, loss_text};
 
 /// The loss that a fit makes least.
 #[derive(Clone, Copy, Debug, PartialEq, Eq)]
@@ -19,15 +19,6 @@ impl LossKind {
         match self {
             LossKind::Squares => b"squares",
             LossKind::Median => b"median",
-        }
-    }
-
-    /// Whether the loss is one of the table, as those of settings are.
-    pub fn is_listed(self) -> bool
-        ensures { IsTrue result ↔ IsListed self }
-    {
-        match self {
-            LossKind::Squares | LossKind::Median => true,
         }
     }
 

@@ -7,7 +7,7 @@ use ofit_num::Frac;
 use std::alloc::{AllocError, Global};
 
 /// Whether both ends of the pair have one value.
-fn is_tight(values: &[Frac], pair: (u32, u32)) -> bool
+pub fn is_tight(values: &[Frac], pair: (u32, u32)) -> bool
     requires low { pair.0 < length values.now }
     requires high { pair.1 < length values.now }
     ensures { result ≡ is_tight values.now pair }

@@ -40,7 +40,7 @@ pub enum DataFault {
     /// The record's group is new, and 2,000 groups stand before it.
     #[error("record {0}: too many groups")]
     TooManyGroups(u32),
-    /// Memory ran out.
+    /// Memory was wanting.
     #[error("out of memory")]
     Memory,
 }
@@ -69,7 +69,7 @@ pub enum OrderFault {
     /// The pattern's group isn't a group of the study.
     #[error("no such group")]
     NoGroup,
-    /// Memory ran out.
+    /// Memory was wanting.
     #[error("out of memory")]
     Memory,
 }

@@ -10,7 +10,7 @@ pub enum UnimodalFault {
     /// The study has more than 200 groups.
     #[error("more than 200 groups")]
     TooManyGroups,
-    /// Memory ran out.
+    /// Memory was wanting.
     #[error("out of memory")]
     Memory,
 }

@@ -31,7 +31,7 @@ pub enum WordFault {
     /// The least value is above the greatest.
     #[error("bounds cross")]
     BoundsCross,
-    /// Memory ran out.
+    /// Memory was wanting.
     #[error("out of memory")]
     Memory,
 }

@@ -159,8 +159,8 @@ fn job_of(
 /// What the words of a call ask for, without the program's name: word 0 is the command, then come its
 /// names, and then its settings `key=value`. The first fault of the words, in the order of
 /// [`WordFault`]'s variants; those of the settings by rising place. [`WordFault::Memory`] may come in
-/// place of each. Time linear in the words, of which at most ten settings are judged: a key stands once,
-/// and the first fault ends it.
+/// place of each. Time linear in the words, of which at most six settings are judged: no command takes
+/// more than five keys, each stands once, and the first fault ends it.
 pub fn read_words(alloc: Global, words: &[String]) -> Result<Job, WordFault>
     ensures read { IsErrOf result WordFault.Memory ⊎ WordsRead (map string_bytes words.now) result }
     ensures limits { IfOk result IsJobInLimits }

@@ -38,7 +38,7 @@ fn read_setting(
 }
 
 /// The settings that words give, each read once, or their first fault. Each is compared with those before
-/// it, of which there are at most nine, since no key stands twice among settings without a fault.
+/// it, of which there are at most five, since no command takes more keys and none stands twice without a fault.
 pub(crate) fn read_settings(
     alloc: Global,
     command: Command,

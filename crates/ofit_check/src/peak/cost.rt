@@ -51,7 +51,7 @@ pub(crate) fn cost_of_values(study: &Study, peaked: &Peaked) -> u128
     cost
 }
 
-/// What a side costs under the median that begins at a place and has so many steps.
+/// What a side costs under the median that begins at a place and has so many steps, in units times weights.
 pub fn cost_of_side(study: &Study, start: u32, side: &Side, steps: u32) -> u128
     requires valid { IsValid study.now }
     requires few { length (names_of study.now) ≤ MOST_PEAK_GROUPS }

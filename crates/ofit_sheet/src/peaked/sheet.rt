@@ -78,7 +78,7 @@ impl Peaked {
         self.peak
     }
 
-    /// The cost of the values.
+    /// The cost of the values, in units times weights.
     pub fn cost(&self) -> u128
         ensures { result ≡ self.now.cost }
     {
